@@ -1,0 +1,6 @@
+pub mod Scheme
+pub mod Flow
+pub mod Refusals
+pub mod Questions
+pub mod Marks
+pub mod Tables

@@ -1,0 +1,51 @@
+-- A published side as a list of marks, one for each point, and the questions of its review.
+use mathlib.Core.Path.{_≡_}
+use mathlib.Core.List.{List, [], _∷_, _++_}
+use mathlib.Core.Bool.{Bool, true, false, cond, not, _&&_}
+use Prim.Native.Nat.{ℕ, _≤_}
+use lib.ListN.{length, getD}
+use lib.Dec.{leb, eqb}
+use lib.IntN.{ℤ, pos, negsuc}
+use Rattle.std.specs.shelf.Lists.{All}
+use Rattle.std.specs.declared.option.Option.the-variants.{Some, None}
+use Rattle.scheme.specs.declared.faults.Layer.the-variants.{Call}
+use Rattle.scheme.specs.Scheme.{Scheme}
+use Rattle.scheme.specs.Flow.{Points, Side, value, capacity}
+use Rattle.scheme.specs.Refusals.{refused}
+use Rattle.scheme.specs.Questions.{Question, bookQuestions}
+
+-- the points that are marked with 1
+abbrev pub marked : List ℕ → Points
+marked marks v = eqb (getD marks v 0) 1
+
+-- a list of marks that is a side: one mark for each point, 0 or 1, and the points with 1 are a side
+pub record MarksSide (s : Scheme) (marks : List ℕ) : Type 0 where
+  pub count : length marks ≡ s .points
+  pub bits : All (λ m. m ≤ 1) marks
+  pub side : Side s (marked marks)
+
+abbrev pub allBits : List ℕ → Bool
+allBits [] = true
+allBits (m ∷ ms) = leb m 1 && allBits ms
+
+-- Are there n marks, each 0 or 1, the inlet's 1 and the outlet's 0?
+abbrev pub sided : Scheme → List ℕ → Bool
+sided s marks =
+    eqb (length marks) (s .points) && allBits marks && marked marks (s .inlet) && not (marked marks (s .outlet))
+
+abbrev pub askSide : Scheme → List ℕ → Question
+askSide s marks = cond (sided s marks) None (Some (refused Call 15 0))
+
+abbrev pub isNumber : ℤ → ℕ → Bool
+isNumber (pos z) n = eqb z n
+isNumber (negsuc z) n = false
+
+-- Is the value the side's capacity?
+abbrev pub tight : Scheme → List ℕ → Bool
+tight s marks = isNumber (value s) (capacity s (marked marks))
+
+abbrev pub askCapacity : Scheme → List ℕ → Question
+askCapacity s marks = cond (tight s marks) None (Some (refused Call 16 0))
+
+abbrev pub checkQuestions : Scheme → List ℕ → List Question
+checkQuestions s marks = bookQuestions s ++ askSide s marks ∷ askCapacity s marks ∷ []
