@@ -1,5 +1,5 @@
 -- What the questions to a register come to: it is well formed, and its flow is lawful.
-use mathlib.Core.Path.{_≡_, refl, sym, ap, _∙_}
+use mathlib.Core.Path.{_≡_, refl, sym, ap, subst, _∙_}
 use mathlib.Core.Logic.{_≢_, ⊎-elim}
 use mathlib.Core.List.{List, [], _∷_, _++_}
 use mathlib.Core.Bool.{Bool, true, false, cond, _||_}
@@ -33,16 +33,17 @@ refuses q later e = sym (ap (λ q. orElse q later) e)
 pub passes : {x : Question} (q later : Question) → q ≡ None → x ≡ later → x ≡ orElse q later
 passes q later e rest = rest ∙ sym (ap (λ q. orElse q later) e)
 
+firstNo-append : (qs later : List Question) → firstNo (qs ++ later) ≡ orElse (firstNo qs) (firstNo later)
+firstNo-append [] later = refl
+firstNo-append (None ∷ qs) later = firstNo-append qs later
+firstNo-append (Some y ∷ qs) later = refl
+
 -- the same, of a list of questions
 pub refuses-all : {x : Refusal} (qs later : List Question) → firstNo qs ≡ Some x → Some x ≡ firstNo (qs ++ later)
-refuses-all [] later e = absurd (some≢none (sym e))
-refuses-all (None ∷ qs) later e = refuses-all qs later e
-refuses-all (Some y ∷ qs) later e = sym e
+refuses-all qs later e = refuses (firstNo qs) (firstNo later) e ∙ sym (firstNo-append qs later)
 
 pub passes-all : {x : Question} (qs later : List Question) → firstNo qs ≡ None → x ≡ firstNo later → x ≡ firstNo (qs ++ later)
-passes-all [] later e rest = rest
-passes-all (None ∷ qs) later e rest = passes-all qs later e rest
-passes-all (Some y ∷ qs) later e rest = absurd (some≢none e)
+passes-all qs later e rest = passes (firstNo qs) (firstNo later) e rest ∙ sym (firstNo-append qs later)
 
 -- All the questions are answered yes exactly if P.
 abbrev pub Means : Question → Type 0 → Type 0
@@ -52,11 +53,14 @@ pub accepted-means : {X F P : Type 0} (tells : F → Refusal) (r : Result X F) (
 accepted-means tells (Ok x) q e means = (λ _. means .0 (sym e), λ _. refl)
 accepted-means tells (Err fault) q e means = (λ h. absurd (false≢true h), λ h. absurd (some≢none (e ∙ means .1 h)))
 
-or-means : {P Q : Type 0} (q later : Question) → Means q P → Means later Q → Means (orElse q later) (P × Q)
+pub or-means : {P Q : Type 0} (q later : Question) → Means q P → Means later Q → Means (orElse q later) (P × Q)
 or-means None later here there = (λ e. (here .0 refl, there .0 e), λ h. there .1 (h .1))
 or-means (Some refusal) later here there = (λ e. absurd (some≢none e), λ h. absurd (some≢none (here .1 (h .0))))
 
-test-means : {P : Type 0} (t : Bool) (refusal : Refusal) → Decides t P → Means (cond t None (Some refusal)) P
+pub append-means : {P Q : Type 0} (qs later : List Question) → Means (firstNo qs) P → Means (firstNo later) Q → Means (firstNo (qs ++ later)) (P × Q)
+append-means {P} {Q} qs later here there = subst (λ q. Means q (P × Q)) (sym (firstNo-append qs later)) (or-means (firstNo qs) (firstNo later) here there)
+
+pub test-means : {P : Type 0} (t : Bool) (refusal : Refusal) → Decides t P → Means (cond t None (Some refusal)) P
 test-means true refusal decides = (λ _. decides .0 refl, λ _. refl)
 test-means false refusal decides = (λ e. absurd (some≢none e), λ h. absurd (false≢true (decides .1 h)))
 
@@ -64,11 +68,11 @@ place-means : {P : Type 0} (tell : ℕ → Refusal) (place : Option ℕ) → (pl
 place-means tell None holds back = (λ _. holds refl, λ _. refl)
 place-means tell (Some k) holds back = (λ e. absurd (some≢none e), λ h. absurd (some≢none (back h)))
 
-yes-means : Means None (Unit {0})
+pub yes-means : Means None (Unit {0})
 yes-means = (λ _. tt, λ _. refl)
 
 -- the two shapes of P that a list of questions gives and that we want
-means-like : {P Q : Type 0} (q : Question) → (P → Q) → (Q → P) → Means q P → Means q Q
+pub means-like : {P Q : Type 0} (q : Question) → (P → Q) → (Q → P) → Means q P → Means q Q
 means-like q there back means = (λ e. there (means .0 e), λ h. means .1 (back h))
 
 module _ (s : Scheme) where
@@ -81,18 +85,16 @@ module _ (s : Scheme) where
     pub apart : s .inlet ≢ s .outlet
 
   shaped-decides : Decides (shaped s) Shaped
-  shaped-decides =
-      (
-        λ e. record { some-points = grind (arith, tells); few-points = grind (arith, tells); few-reaches = grind (arith, tells); inlet-point = grind (arith, tells); outlet-point = grind (arith, tells); apart = grind (arith, tells) },
-        λ h. grind (arith, tells)
-      )
+  shaped-decides = (
+    λ e. record { some-points = grind (arith, tells); few-points = grind (arith, tells); few-reaches = grind (arith, tells); inlet-point = grind (arith, tells); outlet-point = grind (arith, tells); apart = grind (arith, tells) },
+    λ h. grind (arith, tells),
+  )
 
   joins-decides : (r : Reach) → Decides (joins s r) (Joined s r)
-  joins-decides r =
-      (
-        λ e. record { tail-point = grind (arith, tells); head-point = grind (arith, tells); apart = grind (arith, tells); bounded = grind (arith, tells) },
-        λ h. grind (arith, tells)
-      )
+  joins-decides r = (
+    λ e. record { tail-point = grind (arith, tells); head-point = grind (arith, tells); apart = grind (arith, tells); bounded = grind (arith, tells) },
+    λ h. grind (arith, tells),
+  )
 
   ends-mean : Means (askEnds s) (All (Joined s) (s .reaches))
   ends-mean =

@@ -3,3 +3,4 @@ pub mod Searches
 pub mod Writes
 pub mod Asked
 pub mod Totals
+pub mod Sides

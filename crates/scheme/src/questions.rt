@@ -15,7 +15,9 @@ use crate::registers::Register;
 use crate::sums::add_if;
 
 pub const MOST_POINTS: u16 = 512;
+
 pub const MOST_REACHES: usize = 8_192;
+
 pub const GREATEST_LIMIT: u32 = 1_000_000;
 
 // What is asked before a book is opened: is it well formed?
@@ -53,7 +55,12 @@ fn is_shaped<R: Register>(register: &R) -> bool
     let points = register.points();
     let inlet = register.inlet();
     let outlet = register.outlet();
-    points >= 2 && points <= MOST_POINTS && register.reaches() <= MOST_REACHES && inlet < points && outlet < points && inlet != outlet
+    points >= 2
+        && points <= MOST_POINTS
+        && register.reaches() <= MOST_REACHES
+        && inlet < points
+        && outlet < points
+        && inlet != outlet
 }
 
 // Are the ends two different points, under a limit that is allowed?

@@ -110,7 +110,11 @@ fn is_tight<R: Register>(register: &R, marks: &[u8]) -> bool
         let flow = register.flow(reach).unwrap_or(0);
         outflow = add_if(outflow, tail == inlet, flow);
         inflow = add_if(inflow, head == inlet, flow);
-        capacity = add_if(capacity, is_marked(marks, tail) & !is_marked(marks, head), limit);
+        capacity = add_if(
+            capacity,
+            is_marked(marks, tail) & !is_marked(marks, head),
+            limit,
+        );
     }
     outflow == inflow + capacity
 }

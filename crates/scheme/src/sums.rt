@@ -9,9 +9,5 @@ pub fn add_if(sum: u64, holds: bool, amount: u32) -> u64
     ensures value { λ r. ⌜ r ≡ sum + cond holds amount 0 ⌝ }
     ensures bound { λ r. ⌜ r ≤ sum + amount ⌝ }
 {
-    if holds {
-        sum + u64::from(amount)
-    } else {
-        sum
-    }
+    if holds { sum + u64::from(amount) } else { sum }
 }

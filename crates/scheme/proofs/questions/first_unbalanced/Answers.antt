@@ -20,12 +20,11 @@ loop-reach-again g c =
     let within : k < length rs = omega (arith, c .reaches-count .ensures) in
     let tail = field-read (λ r. r .tail) rs k (c .tail .result) _ (c .unwrap-or-tail .ensures) (c .tail .ensures) in
     let head = field-read (λ r. r .head) rs k (c .head .result) _ (c .unwrap-or-head .ensures) (c .head .ensures) in
-    let flow = field-read (λ r. r .flow) rs k (c .flow .result) _ (c .unwrap-or-flow .ensures) (c .flow .ensures) in
-    (
+    let flow = field-read (λ r. r .flow) rs k (c .flow .result) _ (c .unwrap-or-flow .ensures) (c .flow .ensures) in (
       sum-step (λ r. cond (eqb (r .head) v) (r .flow) 0) rs k _ _ _ within (c .loop-reach .inv .0) (c .add-if-inflow .ensures .value) (cc),
       sum-step (λ r. cond (eqb (r .tail) v) (r .flow) 0) rs k _ _ _ within (c .loop-reach .inv .1) (c .add-if-outflow .ensures .value) (cc),
       omega arith,
-      omega arith
+      omega arith,
     )
 
 pub points-again : need.points-again
