@@ -6,6 +6,9 @@ pub mod review;
 pub mod rows;
 mod sums;
 pub mod tables;
+#[cfg(test)]
+mod tests;
+pub mod words;
 
 pub use faults::BookFault;
 pub use faults::CallFault;
