@@ -1,0 +1,6 @@
+// Scheme files: a run of records, read, refused with a place, and used where they lie as a book.
+mod numbers;
+pub mod parts;
+
+pub use parts::Part;
+pub use parts::part_at;
