@@ -50,10 +50,10 @@ abbrev pub askRecord : List ℕ → ℕ → Bool → Question
 askRecord bs at seen =
     firstNo
     (unless (inside bs at) 2 at
-     ∷ unless (known (kindAt bs at)) 3 at
-     ∷ unless (headed at (kindAt bs at) (lengthAt bs at)) 4 at
-     ∷ unless (rowed seen (kindAt bs at) (lengthAt bs at)) 5 at
-     ∷ [])
+    ∷ unless (known (kindAt bs at)) 3 at
+    ∷ unless (headed at (kindAt bs at) (lengthAt bs at)) 4 at
+    ∷ unless (rowed seen (kindAt bs at) (lengthAt bs at)) 5 at
+    ∷ [])
 
 -- What is asked at the end: whether there was a record, and a row block, whose place is the answer.
 abbrev pub ending : ℕ → Option ℕ → Result ℕ Refusal

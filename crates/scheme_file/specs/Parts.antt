@@ -1,14 +1,14 @@
 -- What a part of a file is: its kind, its place and the values that stand there.
 use mathlib.Core.Path.{_≡_}
 use mathlib.Core.List.{List}
-use Prim.Native.Nat.{ℕ, _+_}
+use Prim.Native.Nat.{ℕ, _+_, min}
 use lib.ListN.{length}
 use denote.Ref.{now}
 use Rattle.std.specs.shelf.Lists.{between}
 use Rattle.scheme_file.specs.declared.parts.Part.{Part}
 use Rattle.scheme_file.specs.declared.parts.Part.the-variants.{Head, Rows, Note}
 use Rattle.scheme_file.specs.Numbers.{twoAt}
-use Rattle.scheme_file.specs.Asked.{kindAt, lengthAt, endAt}
+use Rattle.scheme_file.specs.Asked.{kindAt, lengthAt}
 
 abbrev pub partKind : Part → ℕ
 partKind (Head at points inlet outlet) = 1
@@ -25,6 +25,10 @@ abbrev pub partSize : Part → ℕ
 partSize (Head at points inlet outlet) = 6
 partSize (Rows at bytes) = length (now bytes)
 partSize (Note at bytes) = length (now bytes)
+
+-- where the next record begins, as far as a place has a number
+abbrev pub partEnd : Part → ℕ
+partEnd part = min (partPlace part + 6 + partSize part) 18446744073709551615
 
 -- its values are those of the file's bytes from a place on
 abbrev pub ValuesAt : List ℕ → ℕ → Part → Type 0

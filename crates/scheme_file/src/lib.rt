@@ -1,6 +1,7 @@
 // Scheme files: a run of records, read, refused with a place, and used where they lie as a book.
 mod numbers;
 pub mod parts;
+mod reading;
 
 pub use parts::Part;
 pub use parts::part_at;

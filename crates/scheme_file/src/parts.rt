@@ -8,19 +8,25 @@ ghost use Rattle.std.specs.Options.{Cases};
 ghost use Rattle.std.specs.Vec.{made};
 ghost use Rattle.std.specs.declared.option.Option.the-variants.{None};
 ghost use Rattle.scheme.specs.Refusals.{fileRefusal, refusalOf};
-ghost use Rattle.scheme_file.specs.Asked.{askRecord, inside, endAt, lengthAt};
-ghost use Rattle.scheme_file.specs.Parts.{PartAt, partPlace, partSize};
+ghost use Rattle.scheme_file.specs.Asked.{askRecord};
+ghost use Rattle.scheme_file.specs.Parts.{PartAt, partEnd, partKind, partPlace, partSize};
 use crate::numbers::get_u16;
 use crate::numbers::get_u32;
 use scheme::FileFault;
 
 // A record is a body length, a kind and the body.
 const HEADER: usize = 6;
+
 const HEAD: u16 = 1;
+
 const ROWS: u16 = 2;
+
 const NOTE: u16 = 3;
+
 const HEAD_SIZE: usize = 6;
+
 const ROW_SIZE: usize = 12;
+
 const MOST_ROWS: usize = 4096;
 
 // A record with the place of its first byte. Rows and notes are lent out of the file.
@@ -40,6 +46,49 @@ pub enum Part<'a> {
         at: usize,
         bytes: &'a [u8],
     },
+}
+
+impl Part<'_> {
+    pub fn kind(&self) -> u16
+        ensures { λ r. ⌜ r ≡ partKind (now (self .entry)) ⌝ }
+    {
+        match self {
+            Part::Head { .. } => HEAD,
+            Part::Rows { .. } => ROWS,
+            Part::Note { .. } => NOTE,
+        }
+    }
+
+    // Where its first byte is.
+    pub fn place(&self) -> usize
+        ensures { λ r. ⌜ r ≡ partPlace (now (self .entry)) ⌝ }
+    {
+        match self {
+            Part::Head { at, .. } => *at,
+            Part::Rows { at, .. } => *at,
+            Part::Note { at, .. } => *at,
+        }
+    }
+
+    // The length of its body.
+    pub fn size(&self) -> usize
+        ensures { λ r. ⌜ r ≡ partSize (now (self .entry)) ⌝ }
+    {
+        match self {
+            Part::Head { .. } => HEAD_SIZE,
+            Part::Rows { bytes, .. } => bytes.len(),
+            Part::Note { bytes, .. } => bytes.len(),
+        }
+    }
+
+    // Where the next record begins.
+    pub fn end(&self) -> usize
+        ensures { λ r. ⌜ r ≡ partEnd (now (self .entry)) ⌝ }
+    {
+        self.place()
+            .saturating_add(HEADER)
+            .saturating_add(self.size())
+    }
 }
 
 // The record at a place, or nothing at the file's end. `rows_seen` tells whether a row block came before.
