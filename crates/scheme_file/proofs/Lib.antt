@@ -1,2 +1,6 @@
 pub mod Walks
 pub mod Steps
+pub mod RowLists
+pub mod Patches
+pub mod Fields
+pub mod RowWrites

@@ -2,3 +2,5 @@ pub mod Numbers
 pub mod Asked
 pub mod Parts
 pub mod Reading
+pub mod Rows
+pub mod Files
