@@ -4,3 +4,5 @@ pub mod RowLists
 pub mod Patches
 pub mod Fields
 pub mod RowWrites
+pub mod Stays
+pub mod FileWrites

@@ -17,15 +17,14 @@ use Rattle.scheme_file.specs.Rows.{patched}
 pub four-back : (x : ℕ) → x < 2 ^ 32 → fourAt (four x) 0 ≡ x
 four-back x fits =
     let top : x / 16777216 % 256 ≡ x / 16777216 = mod-eq-of-lt (div-below x 16777216 256 (omega arith) fits) in
-    omega
-    (
+    omega (
       arith,
       top,
       div-add-mod' x 256,
       div-add-mod' (x / 256) 256,
       div-add-mod' (x / 65536) 256,
       div-div-eq-div-mul x 256 256,
-      div-div-eq-div-mul x 65536 256
+      div-div-eq-div-mul x 65536 256,
     )
 
 module _ (bs : List ℕ) (p x : ℕ) (holds : p + 4 ≤ length bs) where
@@ -49,21 +48,19 @@ module _ (bs : List ℕ) (p x : ℕ) (holds : p + 4 ≤ length bs) where
 
     pub fourAt-patched : (q + 4 ≤ p) ⊎ (p + 4 ≤ q) → fourAt (patched bs p x) q ≡ fourAt bs q
     fourAt-patched (inl before) =
-        rw
-        (
+        rw (
           patched-below q (omega arith),
           patched-below (q + 1) (omega arith),
           patched-below (q + 2) (omega arith),
-          patched-below (q + 3) (omega arith)
+          patched-below (q + 3) (omega arith),
         )
         refl
     fourAt-patched (inr after) =
-        rw
-        (
+        rw (
           patched-above q (omega arith),
           patched-above (q + 1) (omega arith),
           patched-above (q + 2) (omega arith),
-          patched-above (q + 3) (omega arith)
+          patched-above (q + 3) (omega arith),
         )
         refl
 

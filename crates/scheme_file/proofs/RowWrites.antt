@@ -22,17 +22,17 @@ pub record Field : Type 0 where
   pub small : offset ≤ 8
   pub here : (bs : List ℕ) (p x : ℕ) → p + 12 ≤ length bs → x < 2 ^ 32 → rowAt (patched bs (p + offset) x) p ≡ edit x (rowAt bs p)
 
-reach-of : (t t′ h h′ l l′ f f′ : ℕ) → t ≡ t′ → h ≡ h′ → l ≡ l′ → f ≡ f′ → _≡_ {A = Reach} (record { tail = t; head = h; limit = l; flow = f }) (record { tail = t′; head = h′; limit = l′; flow = f′ })
+pub reach-of : (t t′ h h′ l l′ f f′ : ℕ) → t ≡ t′ → h ≡ h′ → l ≡ l′ → f ≡ f′ → _≡_ {A = Reach} (record { tail = t; head = h; limit = l; flow = f }) (record { tail = t′; head = h′; limit = l′; flow = f′ })
 reach-of t t′ h h′ l l′ f f′ et eh el ef = cc
 
-pub limit-field : Field
+abbrev pub limit-field : Field
 limit-field =
     record {
       offset = 4;
       edit = limited;
       small = omega arith;
       here =
-        λ bs p x holds fits.
+          λ bs p x holds fits.
           reach-of _ _ _ _ _ _ _ _
           (twoAt-patched bs (p + 4) x (omega arith) p (inl (omega arith)))
           (twoAt-patched bs (p + 4) x (omega arith) (p + 2) (inl (omega arith)))
@@ -40,14 +40,14 @@ limit-field =
           (fourAt-patched bs (p + 4) x (omega arith) (p + 8) (inr (omega arith)));
     }
 
-pub flow-field : Field
+abbrev pub flow-field : Field
 flow-field =
     record {
       offset = 8;
       edit = flowing;
       small = omega arith;
       here =
-        λ bs p x holds fits.
+          λ bs p x holds fits.
           reach-of _ _ _ _ _ _ _ _
           (twoAt-patched bs (p + 8) x (omega arith) p (inl (omega arith)))
           (twoAt-patched bs (p + 8) x (omega arith) (p + 2) (inl (omega arith)))
@@ -79,14 +79,14 @@ module _ (field : Field) (bs : List ℕ) (p count reach x : ℕ) (within : reach
   row-after k d below =
       ⊎-elim
       (λ same. rw same
-         (getD-rows after p count reach d within
-          ∙ field .here bs (rowPlace p reach) x (omega arith) fits
-          ∙ sym (getD-set-same (rowsAt bs p count) reach _ d (omega (arith, length-rows bs p count)))))
+      (getD-rows after p count reach d within
+      ∙ field .here bs (rowPlace p reach) x (omega arith) fits
+      ∙ sym (getD-set-same (rowsAt bs p count) reach _ d (omega (arith, length-rows bs p count)))))
       (λ apart.
-         getD-rows after p count k d below
-         ∙ row-apart bs (rowPlace p reach + field .offset) x (rowPlace p k) (omega (arith, field .small)) (⊎-elim (λ lt. inl (omega arith)) (λ gt. inr (omega (arith, field .small))) apart)
-         ∙ sym (getD-rows bs p count k d below)
-         ∙ sym (getD-set-other (rowsAt bs p count) reach k _ d (⊎-elim (λ lt e. omega arith) (λ gt e. omega arith) apart)))
+      getD-rows after p count k d below
+      ∙ row-apart bs (rowPlace p reach + field .offset) x (rowPlace p k) (omega (arith, field .small)) (⊎-elim (λ lt. inl (omega arith)) (λ gt. inr (omega (arith, field .small))) apart)
+      ∙ sym (getD-rows bs p count k d below)
+      ∙ sym (getD-set-other (rowsAt bs p count) reach k _ d (⊎-elim (λ lt e. omega arith) (λ gt e. omega arith) apart)))
       (cases-order k reach)
 
   pub rows-after : rowsAt (patched bs (rowPlace p reach + field .offset) x) p count ≡ changed (field .edit x) (rowsAt bs p count) reach
@@ -96,18 +96,17 @@ module _ (field : Field) (bs : List ℕ) (p count reach x : ℕ) (within : reach
       (length-rows _ p count ∙ sym (length-set (rowsAt bs p count) reach _ ∙ length-rows bs p count))
       (λ k d below. row-after k d (omega (arith, length-rows (patched bs (rowPlace p reach + field .offset) x) p count)))
       ∙ sym
-        (changed-at (field .edit x) (rowsAt bs p count) reach (rowAt bs (rowPlace p reach)) (omega (arith, length-rows bs p count))
-         (sym (getD-rows bs p count reach _ within)))
+      (changed-at (field .edit x) (rowsAt bs p count) reach (rowAt bs (rowPlace p reach)) (omega (arith, length-rows bs p count))
+      (sym (getD-rows bs p count reach _ within)))
 
   pub scheme-after : 12 ≤ p → schemeAt (patched bs (rowPlace p reach + field .offset) x) p count ≡ over (schemeAt bs p count) (changed (field .edit x) (rowsAt bs p count) reach)
   scheme-after past =
       let q = rowPlace p reach + field .offset in
       let inside : q + 4 ≤ length bs = omega (arith, field .small) in
-      rw
-      (
+      rw (
         twoAt-patched bs q x inside 6 (inl (omega arith)),
         twoAt-patched bs q x inside 8 (inl (omega arith)),
         twoAt-patched bs q x inside 10 (inl (omega arith)),
-        rows-after
+        rows-after,
       )
       refl

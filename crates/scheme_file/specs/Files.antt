@@ -1,12 +1,15 @@
 -- What a scheme file in place means.
+use mathlib.Core.Path.{_≡_}
 use mathlib.Core.List.{List}
 use mathlib.Core.Bool.{cond, _&&_}
 use Prim.Native.Nat.{ℕ, _+_, _*_}
 use lib.Dec.{leb, ltb}
 use lib.ListN.{length}
 use denote.Ref.{now}
+use Rattle.std.specs.declared.result.Result.the-variants.{Ok}
 use Rattle.scheme.specs.Scheme.{Scheme}
 use Rattle.scheme_file.specs.declared.files.SchemeFile.{SchemeFile}
+use Rattle.scheme_file.specs.Asked.{rowBlock, lengthAt}
 use Rattle.scheme_file.specs.Rows.{schemeAt, rowPlace, patched}
 
 -- the bytes as they are now
@@ -27,3 +30,10 @@ fileScheme f = schemeAt (fileBytes f) (f .rows) (heldRows f)
 abbrev pub rowPatched : SchemeFile → ℕ → ℕ → ℕ → List ℕ
 rowPatched f reach offset x =
     cond (ltb reach (heldRows f)) (patched (fileBytes f) (rowPlace (f .rows) reach + offset) x) (fileBytes f)
+
+-- a file that is accepted, with its rows where they were found
+pub record Accepted (f : SchemeFile) : Type 0 where
+  pub block : ℕ
+  pub found : rowBlock (fileBytes f) ≡ Ok block
+  pub begin : f .rows ≡ block + 6
+  pub whole : 12 * f .count ≡ lengthAt (fileBytes f) block

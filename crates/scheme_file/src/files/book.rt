@@ -4,8 +4,9 @@ ghost use Prim.Native.Nat.{_+_, _*_, _≤_, _<_};
 ghost use denote.Ref.{now};
 ghost use lib.ListN.{length};
 ghost use Rattle.std.specs.Options.{Cases};
+ghost use Rattle.scheme.specs.Scheme.{withFlow, withLimit};
 ghost use Rattle.scheme.specs.Refusals.{bookRefusal, refusalOf, unlisted};
-ghost use Rattle.scheme_file.specs.Files.{fileBytes, fileScheme, heldRows, rowPatched};
+ghost use Rattle.scheme_file.specs.Files.{Accepted, fileBytes, fileScheme, heldRows, rowPatched};
 ghost use Rattle.scheme_file.specs.Rows.{rowPlace};
 use crate::files::SchemeFile;
 use crate::numbers::get_u16;
@@ -16,11 +17,14 @@ use scheme::BookFault;
 use scheme::Register;
 
 const HEAD_END: usize = 12;
+
 const ROW_SIZE: usize = 12;
 
 // Where the fields of a row begin, after the tail.
 const HEAD: usize = 2;
+
 const LIMIT: usize = 4;
+
 const FLOW: usize = 8;
 
 impl SchemeFile<'_> {
@@ -105,12 +109,23 @@ pub impl Register for SchemeFile<'_> as SchemeFileRegister {
     }
 }
 
+// A write leaves every byte but its own four, and an accepted file accepted.
 pub impl Book for SchemeFile<'_> as SchemeFileBook {
-    fn set_limit(&mut self, reach: usize, limit: u32) -> Result<(), BookFault> {
+    fn set_limit(&mut self, reach: usize, limit: u32) -> Result<(), BookFault>
+        ensures answer { λ r. ⌜ refusalOf bookRefusal r ≡ unlisted (fileScheme (now (self .entry))) reach ⌝ }
+        ensures after { λ r. ⌜ fileScheme (now (self .exit)) ≡ withLimit (fileScheme (now (self .entry))) reach limit ⌝ }
+        ensures bytes { λ r. ⌜ fileBytes (now (self .exit)) ≡ rowPatched (now (self .entry)) reach 4 limit ⌝ }
+        ensures stays { λ r. ⌜ (Accepted (now (self .entry)) → Accepted (now (self .exit))) ⌝ }
+    {
         self.put(reach, LIMIT, limit)
     }
 
-    fn set_flow(&mut self, reach: usize, flow: u32) -> Result<(), BookFault> {
+    fn set_flow(&mut self, reach: usize, flow: u32) -> Result<(), BookFault>
+        ensures answer { λ r. ⌜ refusalOf bookRefusal r ≡ unlisted (fileScheme (now (self .entry))) reach ⌝ }
+        ensures after { λ r. ⌜ fileScheme (now (self .exit)) ≡ withFlow (fileScheme (now (self .entry))) reach flow ⌝ }
+        ensures bytes { λ r. ⌜ fileBytes (now (self .exit)) ≡ rowPatched (now (self .entry)) reach 8 flow ⌝ }
+        ensures stays { λ r. ⌜ (Accepted (now (self .entry)) → Accepted (now (self .exit))) ⌝ }
+    {
         self.put(reach, FLOW, flow)
     }
 }

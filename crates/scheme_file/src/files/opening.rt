@@ -1,12 +1,9 @@
 // A file opened, and its bytes given back.
 ghost use mathlib.Core.Path.{_≡_};
-ghost use Prim.Native.Nat.{_+_, _/_};
-ghost use denote.Ref.{now};
 ghost use Rattle.std.specs.Vec.{made};
-ghost use Rattle.std.specs.declared.result.Result.the-variants.{Ok};
 ghost use Rattle.scheme.specs.Refusals.{fileRefusal, refusalOf};
-ghost use Rattle.scheme_file.specs.Asked.{fileFault, rowBlock, lengthAt};
-ghost use Rattle.scheme_file.specs.Files.{fileBytes, fileScheme};
+ghost use Rattle.scheme_file.specs.Asked.{fileFault};
+ghost use Rattle.scheme_file.specs.Files.{Accepted, fileBytes};
 use crate::files::SchemeFile;
 use crate::numbers::get_u32;
 use crate::reading::row_block;
@@ -16,6 +13,7 @@ impl<'a> SchemeFile<'a> {
     pub fn open(bytes: &'a mut [u8]) -> Result<SchemeFile<'a>, FileFault>
         ensures fault { λ r. ⌜ refusalOf fileRefusal r ≡ fileFault (now (bytes .entry)) ⌝ }
         ensures same { λ r. ⌜ made r (λ f. fileBytes f ≡ now (bytes .entry)) ⌝ }
+        ensures accepted { λ r. ⌜ made r Accepted ⌝ }
     {
         let block = row_block(bytes)?;
         let count = get_u32(bytes, block) / 12;

@@ -28,9 +28,9 @@ returns c =
     record {
       answer = sym (unlisted-within (fileScheme f) _ (omega (arith, file-reaches f, found .0)));
       bytes =
-        patched-part (fileBytes f) _ _ (c .args .x) _ refl (c .put-u32 .ensures)
-        ∙ ap (λ row. patched (fileBytes f) (row + c .args .offset) (c .args .x)) (found .1)
-        ∙ cond-below (c .args .reach) (heldRows f) _ _ (found .0);
+          patched-part (fileBytes f) _ _ (c .args .x) _ refl (c .put-u32 .ensures)
+          ∙ ap (λ row. patched (fileBytes f) (row + c .args .offset) (c .args .x)) (found .1)
+          ∙ cond-below (c .args .reach) (heldRows f) _ _ (found .0);
       rows = refl;
       count = refl;
     }
