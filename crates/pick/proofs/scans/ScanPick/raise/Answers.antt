@@ -1,0 +1,10 @@
+use mathlib.Core.Path.{sym, _∙_}
+use native.Mathlib.Omega.{arith}
+use Rattle.pick.proofs.Keys.{outside-below}
+use Rattle.pick.proofs.scans.ScanPick.raise.Needs as need
+
+pub index-self-from : need.index-self-from
+index-self-from c =
+    let scan = c .args .self .now in
+    let out = sym (c .key .ensures) ∙ c .in-Continue-key .ensures tt .back in
+    omega (arith, outside-below (scan .keys) (c .args .point) (c .in-Continue-key .key) out, scan .full)
