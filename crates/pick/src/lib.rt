@@ -4,5 +4,9 @@ pub mod picks;
 pub mod scans;
 
 pub use either::Either;
+pub use picks::GREATEST_KEY;
 pub use picks::Pick;
 pub use scans::Scan;
+
+#[cfg(test)]
+mod tests;

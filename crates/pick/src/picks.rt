@@ -5,6 +5,9 @@ ghost use Rattle.pick.specs.Keys.{Keys, size};
 ghost use Rattle.pick.specs.Calls.{askStart, afterStart, askRaise, afterRaise, Takes};
 use scheme::PickFault;
 
+// the greatest key that a point may have
+pub const GREATEST_KEY: u64 = 1 << 40;
+
 // A priority queue over points whose keys only grow. `held` is all that it means: its size, and the key of
 // each point that is outside. A refused call changes nothing, and the size stays.
 pub trait Pick {

@@ -4,14 +4,14 @@ ghost use lib.ListN.{length};
 ghost use Rattle.pick.specs.Calls.{fresh};
 ghost use Rattle.pick.specs.Keys.{keyOf};
 ghost use Rattle.pick.specs.Scans.{BestBelow, exceeds};
+use crate::picks::GREATEST_KEY;
 use crate::picks::Pick;
 use scheme::PickFault;
 
 const SIZE: usize = 512;
 
+// the greatest point that it has room for
 const LAST: u16 = 511;
-
-const GREATEST_KEY: u64 = 1 << 40;
 
 #[derive(Drop)]
 pub struct Scan {
