@@ -7,6 +7,7 @@ use Prim.Native.Nat.{ℕ, suc, _+_, _-_, _<_, _≤_}
 use native.Mathlib.Omega.{arith}
 use lib.ListN.{length, set, replicate}
 use lib.Dec.{ltb}
+use Rattle.std.specs.declared.option.Option.{Option}
 use Rattle.std.specs.declared.option.Option.the-variants.{Some, None}
 use Rattle.std.proofs.shelf.Lists.{getD-past, getD-replicate, getD-append-left, getD-append-right, length-append, length-replicate, set-at, replicate-more}
 use Rattle.std.proofs.shelf.Tests.{cases-lt, lt-ltb, le-ltb}
@@ -31,15 +32,17 @@ keyOf-fresh points v =
 pub size-started : (points n : ℕ) → n ≤ points → size (started points n) ≡ points
 size-started points n le = simp (length-append, length-replicate) (omega arith)
 
+fill-next : (n : ℕ) (x y : Option ℕ) (rest : Keys) → set (replicate n x ++ y ∷ rest) n x ≡ replicate (n + 1) x ++ rest
+fill-next n x y rest =
+    set-at (replicate n x) y rest x n (length-replicate n x)
+    ∙ sym (append-assoc (replicate n x) (x ∷ []) rest)
+    ∙ ap (λ front. front ++ rest) (replicate-more n x)
+
 -- a start puts out one point after another
 pub started-more : (points n : ℕ) → n < points → set (started points n) n (Some 0) ≡ started points (n + 1)
 started-more points n lt =
-    let rest : Keys = replicate (points - (n + 1)) None in
-    let front : Keys = replicate n (Some 0) in
-    let one-left : points - n ≡ suc (points - (n + 1)) = omega arith in
-    rw one-left (set-at front None rest (Some 0) n (length-replicate n (Some 0))
-    ∙ sym (append-assoc front (Some 0 ∷ []) rest)
-    ∙ ap (λ outside. outside ++ rest) (replicate-more n (Some 0)))
+    let one-more : points - n ≡ suc (points - (n + 1)) = omega arith in
+    rw one-more (fill-next n (Some 0) None (replicate (points - (n + 1)) None))
 
 -- after a start exactly the points below n are outside, with key 0
 pub keyOf-started : (points n v : ℕ) → n ≤ points → keyOf (started points n) v ≡ cond (ltb v n) (Some 0) None

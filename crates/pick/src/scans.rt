@@ -30,11 +30,7 @@ impl Scan {
     fn key(&self, point: u16) -> Option<u64>
         ensures { λ r. ⌜ r ≡ keyOf (now (self .entry) .keys) point ⌝ }
     {
-        if point <= LAST {
-            self.keys[usize::from(point)]
-        } else {
-            None
-        }
+        *self.keys.get(usize::from(point))?
     }
 
     // The best of all points: an outside one with the greatest key.

@@ -63,7 +63,10 @@ fn walk<P: Pick>(pick: &mut P, steps: &[Step]) -> Result<(), Fail> {
             Step::Nothing => check_eq(pick.take(), None)?,
             Step::NoStart(points) => check_eq(told(pick.start(points)), refusal(10, 0))?,
             Step::NoRaise(point, by, number) => {
-                check_eq(told(pick.raise(point, by)), refusal(number, usize::from(point)))?
+                check_eq(
+                    told(pick.raise(point, by)),
+                    refusal(number, usize::from(point)),
+                )?
             }
         }
     }

@@ -6,5 +6,5 @@ use Rattle.pick.proofs.scans.ScanPick.raise.Needs as need
 pub index-self-from : need.index-self-from
 index-self-from c =
     let scan = c .args .self .now in
-    let out = sym (c .key .ensures) ∙ c .in-Continue-key .ensures tt .back in
-    omega (arith, outside-below (scan .keys) (c .args .point) (c .in-Continue-key .key) out, scan .full)
+    let key = c .in-Continue-key .key in
+    omega (arith, scan .full, outside-below (scan .keys) (c .args .point) key (cc (c .key .ensures, c .in-Continue-key .ensures tt .back)))
