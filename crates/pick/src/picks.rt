@@ -25,7 +25,8 @@ pub trait Pick {
         ensures after { λ _. ⌜ held (now (self .exit)) ≡ afterRaise (held (now (self .entry))) point by ⌝ }
         ensures size { λ _. ⌜ size (held (now (self .exit))) ≡ size (held (now (self .entry))) ⌝ };
 
-    // Takes an outside point with the greatest key, if any is outside, and tells the key too.
+    // Takes an outside point with the greatest key, if any is outside, and tells the key too. Which of several
+    // equal points it takes is free.
     fn take(&mut self) -> Option<(u16, u64)>
         ensures takes { λ r. ⌜ Takes (held (now (self .entry))) r (held (now (self .exit))) ⌝ }
         ensures size { λ _. ⌜ size (held (now (self .exit))) ≡ size (held (now (self .entry))) ⌝ };

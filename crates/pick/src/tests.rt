@@ -16,14 +16,17 @@ fn scan() -> Result<(), Fail> {
     trials(&mut Scan::new())
 }
 
+// One list holds picks of both kinds.
 #[test]
-fn first_of_two_kinds() -> Result<(), Fail> {
-    trials(&mut Either::<Scan, Scan>::First(Scan::new()))
-}
-
-#[test]
-fn second_of_two_kinds() -> Result<(), Fail> {
-    trials(&mut Either::<Scan, Scan>::Second(Scan::new()))
+fn either_of_two_kinds() -> Result<(), Fail> {
+    let mut picks: [Either<Scan, Either<Scan, Scan>>; 2] = [
+        Either::First(Scan::new()),
+        Either::Second(Either::Second(Scan::new())),
+    ];
+    for pick in picks.iter_mut() {
+        trials(pick)?;
+    }
+    Ok(())
 }
 
 // A call and what it must answer.
