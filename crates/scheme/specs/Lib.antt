@@ -4,3 +4,4 @@ pub mod Refusals
 pub mod Questions
 pub mod Marks
 pub mod Tables
+pub mod Words

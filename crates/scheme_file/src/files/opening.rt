@@ -1,0 +1,40 @@
+// A file opened, and its bytes given back.
+ghost use mathlib.Core.Path.{_≡_};
+ghost use Rattle.std.specs.Vec.{made};
+ghost use Rattle.scheme.specs.Refusals.{fileRefusal, refusalOf};
+ghost use Rattle.scheme_file.specs.Asked.{fileFault};
+ghost use Rattle.scheme_file.specs.Files.{Accepted, fileBytes};
+use crate::files::SchemeFile;
+use crate::numbers::get_u32;
+use crate::reading::row_block;
+use scheme::FileFault;
+
+impl<'a> SchemeFile<'a> {
+    pub fn open(bytes: &'a mut [u8]) -> Result<SchemeFile<'a>, FileFault>
+        ensures fault { λ r. ⌜ refusalOf fileRefusal r ≡ fileFault (now (bytes .entry)) ⌝ }
+        ensures same { λ r. ⌜ made r (λ f. fileBytes f ≡ now (bytes .entry)) ⌝ }
+        ensures accepted { λ r. ⌜ made r Accepted ⌝ }
+    {
+        let block = row_block(bytes)?;
+        let count = get_u32(bytes, block) / 12;
+        let rows = (block + 6) as u32;
+        Ok(SchemeFile { bytes, rows, count })
+    }
+
+    pub fn bytes(&self) -> &[u8]
+        ensures { λ r. ⌜ now r ≡ fileBytes (now (self .entry)) ⌝ }
+    {
+        self.bytes
+    }
+
+    pub fn into_bytes(self) -> &'a mut [u8]
+        ensures { λ r. ⌜ now r ≡ fileBytes (self .entry) ⌝ }
+    {
+        let SchemeFile {
+            bytes,
+            rows: _,
+            count: _,
+        } = self;
+        bytes
+    }
+}
