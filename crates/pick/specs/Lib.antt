@@ -1,0 +1,3 @@
+pub mod Keys
+pub mod Calls
+pub mod Scans
