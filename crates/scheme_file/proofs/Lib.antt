@@ -6,3 +6,5 @@ pub mod Fields
 pub mod RowWrites
 pub mod Stays
 pub mod FileWrites
+pub mod Laid
+pub mod Cut
