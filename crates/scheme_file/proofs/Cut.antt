@@ -22,6 +22,7 @@ use Rattle.scheme.specs.declared.rows.Reach.{Reach}
 use Rattle.scheme_file.specs.Asked.{askRecord, walk, ending, rowsFrom, rowBlock, endAt, lengthAt, kindAt}
 use Rattle.scheme_file.specs.Layout.{FileRecord, head, rows, note, kindOf, bodyOf, rowBytes, recordBytes, Contents, FileOf, RowFits}
 use Rattle.scheme_file.specs.Numbers.{two, four, twoAt, fourAt}
+use Rattle.scheme_file.specs.Reading.{Bytes}
 use Rattle.scheme_file.specs.Rows.{rowAt, rowPlace, rowsAt}
 use Rattle.scheme_file.proofs.Laid.{notesBytes, length-rows-bytes, joined-append}
 use Rattle.scheme_file.proofs.RowLists.{length-rows}
@@ -51,9 +52,6 @@ four-forth a b c d la lb lc ld =
     let d3 : n / 16777216 % 256 ≡ d = ap (λ m. m % 256) e3 ∙ mod-eq-of-lt ld in
     rw (d0, d1, d2, d3) refl
 
-abbrev pub Bytes : List ℕ → Type 0
-Bytes bs = (i : ℕ) → getD bs i 0 < 256
-
 module _ (bs : List ℕ) (bytes : Bytes bs) where
   one-here : (p e : ℕ) → e ≡ p + 1 → e ≤ length bs → drop p bs ≡ getD bs p 0 ∷ drop e bs
   one-here p e next within = drop-more bs p 0 (omega arith) ∙ ap (λ i. getD bs p 0 ∷ drop i bs) (sym next)
@@ -72,8 +70,8 @@ module _ (bs : List ℕ) (bytes : Bytes bs) where
       ∙ ap (λ l. getD bs p 0 ∷ getD bs (p + 1) 0 ∷ l) (one-here (p + 2) (p + 3) (omega arith) (omega arith))
       ∙ ap (λ l. getD bs p 0 ∷ getD bs (p + 1) 0 ∷ getD bs (p + 2) 0 ∷ l) (one-here (p + 3) e (omega arith) within)
       ∙ ap
-        (λ l. l ++ drop e bs)
-        (sym (four-forth (getD bs p 0) (getD bs (p + 1) 0) (getD bs (p + 2) 0) (getD bs (p + 3) 0) (bytes p) (bytes (p + 1)) (bytes (p + 2)) (bytes (p + 3))))
+      (λ l. l ++ drop e bs)
+      (sym (four-forth (getD bs p 0) (getD bs (p + 1) 0) (getD bs (p + 2) 0) (getD bs (p + 3) 0) (bytes p) (bytes (p + 1)) (bytes (p + 2)) (bytes (p + 3))))
 
   row-here : (p e : ℕ) → e ≡ p + 12 → e ≤ length bs → drop p bs ≡ rowBytes (rowAt bs p) ++ drop e bs
   row-here p e next within =
@@ -92,15 +90,14 @@ module _ (bs : List ℕ) (bytes : Bytes bs) where
   rows-fit : (q a n : ℕ) → All RowFits (map (λ k. rowAt bs (rowPlace q k)) (counting a n))
   rows-fit q a zero = tt
   rows-fit q a (suc n) =
-      let p = q + 12 * a in
-      (
+      let p = q + 12 * a in (
         record {
           tail = omega (arith, bytes p, bytes (p + 1));
           head = omega (arith, bytes (p + 2), bytes (p + 2 + 1));
           limit = omega (arith, bytes (p + 4), bytes (p + 4 + 1), bytes (p + 4 + 2), bytes (p + 4 + 3));
           flow = omega (arith, bytes (p + 8), bytes (p + 8 + 1), bytes (p + 8 + 2), bytes (p + 8 + 3));
         },
-        rows-fit q (a + 1) n
+        rows-fit q (a + 1) n,
       )
 
   -- a record whose length, kind and body stand at a place is laid there
@@ -134,8 +131,8 @@ module _ (bs : List ℕ) (bytes : Bytes bs) where
   head-here within kind size =
       record-here 0 (head (twoAt bs 6) (twoAt bs 8) (twoAt bs 10)) within kind size
       (two-here 6 8 refl (omega arith)
-       ∙ ap (λ l. two (twoAt bs 6) ++ l) (two-here 8 10 refl (omega arith))
-       ∙ ap (λ l. two (twoAt bs 6) ++ (two (twoAt bs 8) ++ l)) (two-here 10 (endAt bs 0) (omega arith) within))
+      ∙ ap (λ l. two (twoAt bs 6) ++ l) (two-here 8 10 refl (omega arith))
+      ∙ ap (λ l. two (twoAt bs 6) ++ (two (twoAt bs 8) ++ l)) (two-here 10 (endAt bs 0) (omega arith) within))
 
 -- the kind that is left where a record passes
 kind-note : (bs : List ℕ) (at : ℕ) (seen : Bool) → askRecord bs at seen ≡ None → (kindAt bs at ≡ 1 → ⊥) → (kindAt bs at ≡ 2 → ⊥) → kindAt bs at ≡ 3
@@ -150,15 +147,15 @@ notes-after zero bs bytes at q block later enough ends = ([], drop-all at bs (om
 notes-after (suc turns) bs bytes at q block later enough ends =
     ⊎-elim
     (λ within.
-       let asked = walks-on turns bs at (Some q) block within ends in
-       let t = taken bs at true asked in
-       let not-rows : kindAt bs at ≡ 2 → ⊥ = no-second bs at asked in
-       let kind = kind-note bs at true asked (t .later later) not-rows in
-       let same : rowsFrom bs at (Some q) ≡ Some q = rw (ne-eqb (kindAt bs at) 2 not-rows) refl in
-       let on : walk turns bs (endAt bs at) (Some q) ≡ Ok block =
-           ap (walk turns bs (endAt bs at)) (sym same) ∙ sym (walk-on turns bs at (Some q) within asked) ∙ ends in
-       let more = notes-after turns bs bytes (endAt bs at) q block (omega arith) (omega arith) on in
-       (noteAt bs bytes at ∷ more .0, note-here bs bytes at (t .inside) kind ∙ ap (λ l. recordBytes (note (noteAt bs bytes at)) ++ l) (more .1)))
+    let asked = walks-on turns bs at (Some q) block within ends in
+    let t = taken bs at true asked in
+    let not-rows : kindAt bs at ≡ 2 → ⊥ = no-second bs at asked in
+    let kind = kind-note bs at true asked (t .later later) not-rows in
+    let same : rowsFrom bs at (Some q) ≡ Some q = rw (ne-eqb (kindAt bs at) 2 not-rows) refl in
+    let on : walk turns bs (endAt bs at) (Some q) ≡ Ok block =
+    ap (walk turns bs (endAt bs at)) (sym same) ∙ sym (walk-on turns bs at (Some q) within asked) ∙ ends in
+    let more = notes-after turns bs bytes (endAt bs at) q block (omega arith) (omega arith) on in
+    (noteAt bs bytes at ∷ more .0, note-here bs bytes at (t .inside) kind ∙ ap (λ l. recordBytes (note (noteAt bs bytes at)) ++ l) (more .1)))
     (λ past. ([], drop-all at bs past))
     (cases-lt at (length bs))
 
@@ -176,42 +173,42 @@ behind-head zero bs bytes at block later enough ends = absurd (ending-none at bl
 behind-head (suc turns) bs bytes at block later enough ends =
     ⊎-elim
     (λ within.
-       let asked = walks-on turns bs at None block within ends in
-       let t = taken bs at false asked in
-       let on = sym (walk-on turns bs at None within asked) ∙ ends in
-       ⊎-elim
-       (λ is.
-          let kind = eqb-true (kindAt bs at) 2 is in
-          let seen : rowsFrom bs at None ≡ Some at = rw is refl in
-          let more = notes-after turns bs bytes (endAt bs at) at block (omega arith) (omega arith) (ap (walk turns bs (endAt bs at)) (sym seen) ∙ on) in
-          record {
-            before = [];
-            reaches = rowsAt bs (at + 6) (lengthAt bs at / 12);
-            after = more .0;
-            few = subst (λ n. n ≤ 4096) (sym (length-rows bs (at + 6) (lengthAt bs at / 12))) (t .few kind);
-            fit = rows-fit bs bytes (at + 6) 0 (lengthAt bs at / 12);
-            laid =
-              rows-here bs bytes at (t .inside) kind (t .whole kind)
-              ∙ ap (λ l. recordBytes (rows (rowsAt bs (at + 6) (lengthAt bs at / 12))) ++ l) (more .1);
-          })
-       (λ other.
-          let not-rows = eqb-false (kindAt bs at) 2 other in
-          let kind = kind-note bs at false asked (t .later later) not-rows in
-          let same : rowsFrom bs at None ≡ None = rw other refl in
-          let more = behind-head turns bs bytes (endAt bs at) block (omega arith) (omega arith) (ap (walk turns bs (endAt bs at)) (sym same) ∙ on) in
-          let this = recordBytes (note (noteAt bs bytes at)) in
-          record {
-            before = noteAt bs bytes at ∷ more .before;
-            reaches = more .reaches;
-            after = more .after;
-            few = more .few;
-            fit = more .fit;
-            laid =
-              note-here bs bytes at (t .inside) kind
-              ∙ ap (λ l. this ++ l) (more .laid)
-              ∙ sym (append-assoc this (notesBytes (more .before)) (recordBytes (rows (more .reaches)) ++ notesBytes (more .after)));
-          })
-       (cases-bool (eqb (kindAt bs at) 2)))
+    let asked = walks-on turns bs at None block within ends in
+    let t = taken bs at false asked in
+    let on = sym (walk-on turns bs at None within asked) ∙ ends in
+    ⊎-elim
+    (λ is.
+    let kind = eqb-true (kindAt bs at) 2 is in
+    let seen : rowsFrom bs at None ≡ Some at = rw is refl in
+    let more = notes-after turns bs bytes (endAt bs at) at block (omega arith) (omega arith) (ap (walk turns bs (endAt bs at)) (sym seen) ∙ on) in
+    record {
+      before = [];
+      reaches = rowsAt bs (at + 6) (lengthAt bs at / 12);
+      after = more .0;
+      few = subst (λ n. n ≤ 4096) (sym (length-rows bs (at + 6) (lengthAt bs at / 12))) (t .few kind);
+      fit = rows-fit bs bytes (at + 6) 0 (lengthAt bs at / 12);
+      laid =
+          rows-here bs bytes at (t .inside) kind (t .whole kind)
+          ∙ ap (λ l. recordBytes (rows (rowsAt bs (at + 6) (lengthAt bs at / 12))) ++ l) (more .1);
+    })
+    (λ other.
+    let not-rows = eqb-false (kindAt bs at) 2 other in
+    let kind = kind-note bs at false asked (t .later later) not-rows in
+    let same : rowsFrom bs at None ≡ None = rw other refl in
+    let more = behind-head turns bs bytes (endAt bs at) block (omega arith) (omega arith) (ap (walk turns bs (endAt bs at)) (sym same) ∙ on) in
+    let this = recordBytes (note (noteAt bs bytes at)) in
+    record {
+      before = noteAt bs bytes at ∷ more .before;
+      reaches = more .reaches;
+      after = more .after;
+      few = more .few;
+      fit = more .fit;
+      laid =
+          note-here bs bytes at (t .inside) kind
+          ∙ ap (λ l. this ++ l) (more .laid)
+          ∙ sym (append-assoc this (notesBytes (more .before)) (recordBytes (rows (more .reaches)) ++ notesBytes (more .after)));
+    })
+    (cases-bool (eqb (kindAt bs at) 2)))
     (λ past. absurd (ending-none at block (sym (walk-all (suc turns) bs at None past) ∙ ends)))
     (cases-lt at (length bs))
 
@@ -233,10 +230,9 @@ contents bs bytes block found =
     let size = t .first refl .1 in
     let same : rowsFrom bs 0 None ≡ None = rw (ne-eqb (kindAt bs 0) 2 (λ e. omega (arith, kind))) refl in
     let on : walk (one .0) bs (endAt bs 0) None ≡ Ok block =
-        ap (walk (one .0) bs (endAt bs 0)) (sym same) ∙ sym (walk-on (one .0) bs 0 None within asked) ∙ begun in
+    ap (walk (one .0) bs (endAt bs 0)) (sym same) ∙ sym (walk-on (one .0) bs 0 None within asked) ∙ begun in
     let rest = behind-head (one .0) bs bytes (endAt bs 0) block (omega arith) (omega (arith, one .1)) on in
-    let first = head (twoAt bs 6) (twoAt bs 8) (twoAt bs 10) in
-    (
+    let first = head (twoAt bs 6) (twoAt bs 8) (twoAt bs 10) in (
       record {
         points = twoAt bs 6;
         inlet = twoAt bs 8;
@@ -247,13 +243,13 @@ contents bs bytes block found =
       },
       record {
         laid =
-          head-here bs bytes (t .inside) kind size
-          ∙ ap (λ l. recordBytes first ++ l) (rest .laid ∙ sym (joined-append recordBytes (map note (rest .before)) (rows (rest .reaches) ∷ map note (rest .after))));
+            head-here bs bytes (t .inside) kind size
+            ∙ ap (λ l. recordBytes first ++ l) (rest .laid ∙ sym (joined-append recordBytes (map note (rest .before)) (rows (rest .reaches) ∷ map note (rest .after))));
         short = short;
         few = rest .few;
         points-fit = omega (arith, bytes 6, bytes 7);
         inlet-fits = omega (arith, bytes 8, bytes 9);
         outlet-fits = omega (arith, bytes 10, bytes 11);
         rows-fit = rest .fit;
-      }
+      },
     )

@@ -38,12 +38,11 @@ twoAt-past pre ys p k e = rw (past pre ys p k e, past pre ys (p + 1) (k + 1) (om
 
 pub fourAt-past : (pre ys : List ℕ) (p k : ℕ) → p ≡ length pre + k → fourAt (pre ++ ys) p ≡ fourAt ys k
 fourAt-past pre ys p k e =
-    rw
-    (
+    rw (
       past pre ys p k e,
       past pre ys (p + 1) (k + 1) (omega arith),
       past pre ys (p + 2) (k + 2) (omega arith),
-      past pre ys (p + 3) (k + 3) (omega arith)
+      past pre ys (p + 3) (k + 3) (omega arith),
     )
     refl
 
@@ -137,13 +136,13 @@ rows-read (r ∷ rs) bs pre rest laid fit zero d below =
     let ys = (rowBytes r ++ joined rowBytes rs) ++ rest in
     ap (λ b. rowAt b (length pre + 12 * 0)) laid
     ∙ reach-of _ _ _ _ _ _ _ _
-      (twoAt-past pre ys (length pre + 12 * 0) 0 (omega arith) ∙ two-back (r .tail) (fit .0 .tail))
-      (twoAt-past pre ys (length pre + 12 * 0 + 2) 2 (omega arith) ∙ two-back (r .head) (fit .0 .head))
-      (fourAt-past pre ys (length pre + 12 * 0 + 4) 4 (omega arith) ∙ four-back (r .limit) (fit .0 .limit))
-      (fourAt-past pre ys (length pre + 12 * 0 + 8) 8 (omega arith) ∙ four-back (r .flow) (fit .0 .flow))
+    (twoAt-past pre ys (length pre + 12 * 0) 0 (omega arith) ∙ two-back (r .tail) (fit .0 .tail))
+    (twoAt-past pre ys (length pre + 12 * 0 + 2) 2 (omega arith) ∙ two-back (r .head) (fit .0 .head))
+    (fourAt-past pre ys (length pre + 12 * 0 + 4) 4 (omega arith) ∙ four-back (r .limit) (fit .0 .limit))
+    (fourAt-past pre ys (length pre + 12 * 0 + 8) 8 (omega arith) ∙ four-back (r .flow) (fit .0 .flow))
 rows-read (r ∷ rs) bs pre rest laid fit (suc k) d below =
     let here : bs ≡ (pre ++ rowBytes r) ++ (joined rowBytes rs ++ rest) =
-        laid ∙ ap (λ l. pre ++ l) (append-assoc (rowBytes r) (joined rowBytes rs) rest) ∙ sym (append-assoc pre (rowBytes r) (joined rowBytes rs ++ rest)) in
+    laid ∙ ap (λ l. pre ++ l) (append-assoc (rowBytes r) (joined rowBytes rs) rest) ∙ sym (append-assoc pre (rowBytes r) (joined rowBytes rs ++ rest)) in
     let place : length pre + 12 * suc k ≡ length (pre ++ rowBytes r) + 12 * k = sym (ap (λ n. n + 12 * k) (length-append pre (rowBytes r)) ∙ omega arith) in
     ap (rowAt bs) place ∙ rows-read rs bs (pre ++ rowBytes r) rest here (fit .1) k d (omega arith)
 
@@ -188,15 +187,15 @@ module _ (bs : List ℕ) (c : Contents) (file : FileOf bs c) where
   laid-rows =
       let size = four (length (joined rowBytes (c .reaches))) ++ two 2 in
       let here : bs ≡ (frontBytes c ++ size) ++ (joined rowBytes (c .reaches) ++ notesBytes (c .after)) =
-          laid-block ∙ sym (append-assoc (frontBytes c) size (joined rowBytes (c .reaches) ++ notesBytes (c .after))) in
+      laid-block ∙ sym (append-assoc (frontBytes c) size (joined rowBytes (c .reaches) ++ notesBytes (c .after))) in
       let place : length (frontBytes c ++ size) ≡ length (frontBytes c) + 6 = length-append (frontBytes c) size in
       same-lists _ _
       (length-rows bs (length (frontBytes c) + 6) (length (c .reaches)))
       (λ k d below.
-         let within : k < length (c .reaches) = omega (arith, length-rows bs (length (frontBytes c) + 6) (length (c .reaches))) in
-         getD-rows bs (length (frontBytes c) + 6) (length (c .reaches)) k d within
-         ∙ ap (λ n. rowAt bs (n + 12 * k)) (sym place)
-         ∙ rows-read (c .reaches) bs (frontBytes c ++ size) (notesBytes (c .after)) here (file .rows-fit) k d within)
+      let within : k < length (c .reaches) = omega (arith, length-rows bs (length (frontBytes c) + 6) (length (c .reaches))) in
+      getD-rows bs (length (frontBytes c) + 6) (length (c .reaches)) k d within
+      ∙ ap (λ n. rowAt bs (n + 12 * k)) (sym place)
+      ∙ rows-read (c .reaches) bs (frontBytes c ++ size) (notesBytes (c .after)) here (file .rows-fit) k d within)
 
   pub laid-scheme : schemeAt bs (length (frontBytes c) + 6) (lengthAt bs (length (frontBytes c)) / 12) ≡ contentsScheme c
   laid-scheme =
@@ -205,3 +204,11 @@ module _ (bs : List ℕ) (c : Contents) (file : FileOf bs c) where
       (ap (λ b. twoAt b 8) laid-out ∙ two-back (c .inlet) (file .inlet-fits))
       (ap (λ b. twoAt b 10) laid-out ∙ two-back (c .outlet) (file .outlet-fits))
       (ap (rowsAt bs (length (frontBytes c) + 6)) laid-count ∙ laid-rows)
+
+  -- the row block lies behind the head and in the bytes
+  pub laid-lies : (12 ≤ length (frontBytes c)) × (endAt bs (length (frontBytes c)) ≤ length bs)
+  laid-lies =
+      let size = length-here bs (frontBytes c) (notesBytes (c .after)) (rows (c .reaches)) laid-block (file .short) in (
+        simp length-append (omega arith),
+        omega (arith, size, total bs (frontBytes c) (notesBytes (c .after)) (rows (c .reaches)) laid-block (file .short)),
+      )

@@ -8,3 +8,4 @@ pub mod Stays
 pub mod FileWrites
 pub mod Laid
 pub mod Cut
+pub mod Meaning

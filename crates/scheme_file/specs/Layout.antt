@@ -64,3 +64,13 @@ pub record FileOf (bs : List ℕ) (c : Contents) : Type 0 where
 -- the register that contents stand for
 abbrev pub contentsScheme : Contents → Scheme
 contentsScheme c = record { points = c .points; inlet = c .inlet; outlet = c .outlet; reaches = c .reaches }
+
+-- A byte string that is a scheme file, and means one register: the one that its contents stand for.
+pub record Means (bs : List ℕ) (s : Scheme) : Type 0 where
+  pub contents : Contents
+  pub file : FileOf bs contents
+  pub only : (c : Contents) → FileOf bs c → contentsScheme c ≡ s
+
+-- a byte string that is no scheme file
+abbrev pub NoFile : List ℕ → Type 0
+NoFile bs = (c : Contents) → FileOf bs c → ⊥
