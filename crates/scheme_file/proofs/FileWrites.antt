@@ -14,9 +14,10 @@ use Rattle.scheme.proofs.Writes.{changed-past}
 use Rattle.scheme_file.specs.declared.files.SchemeFile.{SchemeFile}
 use Rattle.scheme_file.specs.Asked.{endAt, lengthAt, rowBlock}
 use Rattle.scheme_file.specs.Files.{Accepted, fileBytes, fileScheme, heldIn, heldRows, rowPatched}
+use Rattle.scheme_file.specs.Reading.{Bytes}
 use Rattle.scheme_file.specs.Rows.{rowPlace, schemeAt, patched}
 use Rattle.scheme_file.proofs.Fields.{file-reaches}
-use Rattle.scheme_file.proofs.Patches.{length-patched, patched-below, patched-above}
+use Rattle.scheme_file.proofs.Patches.{length-patched, patched-below, patched-above, patched-bytes}
 use Rattle.scheme_file.proofs.RowWrites.{Field, scheme-after}
 use Rattle.scheme_file.proofs.Stays.{row-block-same, length-same}
 
@@ -55,10 +56,9 @@ module _ (field : Field) (f g : SchemeFile) (reach x : ℕ) (fits : x < 2 ^ 32) 
       ∙ ap (over (fileScheme f)) (sym (changed-past (field .edit x) (fileScheme f .reaches) reach (omega (arith, file-reaches f)))))
       (cases-lt reach (heldRows f))
 
-  pub stays-accepted : Accepted f → Accepted g
-  stays-accepted ok =
-      ⊎-elim
-      (λ within.
+  -- a write changes bytes of the row block's body alone
+  stays-within : Accepted f → reach < heldRows f → Accepted g
+  stays-within ok within =
       let lie = held-lie (fileBytes f) (f .rows) (f .count) reach within in
       let q = rowPlace (f .rows) reach + field .offset in
       let holds : q + 4 ≤ length (fileBytes f) = omega (arith, field .small, lie .1) in
@@ -66,25 +66,25 @@ module _ (field : Field) (f g : SchemeFile) (reach x : ℕ) (fits : x < 2 ^ 32) 
       let is : fileBytes g ≡ patched (fileBytes f) q x = bytes ∙ sym (cond-below reach (heldRows f) (patched (fileBytes f) q x) (fileBytes f) within) in
       let level : length (fileBytes g) ≡ length (fileBytes f) = ap length is ∙ length-patched (fileBytes f) q x holds in
       let apart : (k : ℕ) → (k < ok .block + 6) ⊎ (endAt (fileBytes f) (ok .block) ≤ k) → getD (fileBytes g) k 0 ≡ getD (fileBytes f) k 0 =
-      λ k outside.
-      ap (λ bs. getD bs k 0) is
-      ∙ ⊎-elim
-      (λ before. patched-below (fileBytes f) q x holds k (omega (arith, ok .begin)))
-      (λ after. patched-above (fileBytes f) q x holds k (omega arith))
-      outside
-      in
+      λ k outside. ap (λ bs. getD bs k 0) is ∙ ⊎-elim (λ before. patched-below (fileBytes f) q x holds k (omega (arith, ok .begin))) (λ after. patched-above (fileBytes f) q x holds k (omega arith)) outside in
       record {
         block = ok .block;
         found = row-block-same (fileBytes f) (fileBytes g) (ok .block) level apart (ok .found);
         begin = rows ∙ ok .begin;
         whole = ap (λ n. 12 * n) count ∙ ok .whole ∙ sym (length-same (fileBytes f) (fileBytes g) (ok .block) level apart (ok .block) (inl (omega arith)));
-      })
-      (λ past.
+        bytes = subst Bytes (sym is) (patched-bytes (fileBytes f) q x holds (ok .bytes));
+      }
+
+  stays-past : Accepted f → heldRows f ≤ reach → Accepted g
+  stays-past ok past =
       let is : fileBytes g ≡ fileBytes f = bytes ∙ sym (cond-above reach (heldRows f) _ (fileBytes f) (fileBytes f) past refl) in
       record {
         block = ok .block;
         found = ap rowBlock is ∙ ok .found;
         begin = rows ∙ ok .begin;
         whole = ap (λ n. 12 * n) count ∙ ok .whole ∙ ap (λ bs. lengthAt bs (ok .block)) (sym is);
-      })
-      (cases-lt reach (heldRows f))
+        bytes = subst Bytes (sym is) (ok .bytes);
+      }
+
+  pub stays-accepted : Accepted f → Accepted g
+  stays-accepted ok = ⊎-elim (stays-within ok) (stays-past ok) (cases-lt reach (heldRows f))

@@ -6,3 +6,6 @@ pub mod Fields
 pub mod RowWrites
 pub mod Stays
 pub mod FileWrites
+pub mod Laid
+pub mod Cut
+pub mod Meaning

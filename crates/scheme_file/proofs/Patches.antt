@@ -1,16 +1,18 @@
 -- Four bytes of a file replaced by a number.
-use mathlib.Core.Path.{_≡_, refl, sym, ap, _∙_}
+use mathlib.Core.Path.{_≡_, refl, sym, ap, subst, _∙_}
 use mathlib.Core.List.{List, [], _∷_, _++_}
 use mathlib.Core.Logic.{_⊎_, inl, inr, ⊎-elim}
-use Prim.Native.Nat.{ℕ, _+_, _-_, _*_, _/_, _%_, _^_, _≤_, _<_}
+use Prim.Native.Nat.{ℕ, zero, suc, _+_, _-_, _*_, _/_, _%_, _^_, _≤_, _<_}
 use native.Mathlib.Nat.{add-zero, div-div-eq-div-mul, mod-eq-of-lt}
 use native.Mathlib.Omega.{arith}
 use borrow.Author.Needs.{needs}
 use borrow.Rule.Slice.PartMut.{putMid}
 use lib.ListN.{length, getD, take, drop}
-use Rattle.std.proofs.shelf.Bits.{div-add-mod', div-below}
+use Rattle.std.proofs.shelf.Bits.{div-add-mod', div-below, mod-below}
 use Rattle.std.proofs.shelf.Lists.{places, length-append, length-take, length-drop, drop-drop}
 use Rattle.scheme_file.specs.Numbers.{four, twoAt, fourAt}
+use Rattle.std.proofs.shelf.Tests.{cases-lt}
+use Rattle.scheme_file.specs.Reading.{Bytes}
 use Rattle.scheme_file.specs.Rows.{patched}
 
 -- a number of four bytes read back, by the bytes above each
@@ -27,6 +29,13 @@ four-back x fits =
       div-div-eq-div-mul x 65536 256,
     )
 
+four-bytes : (x k : ℕ) → getD (four x) k 0 < 256
+four-bytes x zero = mod-below x 256 (omega arith)
+four-bytes x (suc zero) = mod-below (x / 256) 256 (omega arith)
+four-bytes x (suc (suc zero)) = mod-below (x / 65536) 256 (omega arith)
+four-bytes x (suc (suc (suc zero))) = mod-below (x / 16777216) 256 (omega arith)
+four-bytes x (suc (suc (suc (suc k)))) = omega arith
+
 module _ (bs : List ℕ) (p x : ℕ) (holds : p + 4 ≤ length bs) where
   pub length-patched : length (patched bs p x) ≡ length bs
   length-patched = simp (length-append, length-take, length-drop) (omega arith)
@@ -39,6 +48,19 @@ module _ (bs : List ℕ) (p x : ℕ) (holds : p + 4 ≤ length bs) where
 
   pub patched-in : (k : ℕ) → k < 4 → getD (patched bs p x) (p + k) 0 ≡ getD (four x) k 0
   patched-in k inner = search (needs, places)
+
+  pub patched-bytes : Bytes bs → Bytes (patched bs p x)
+  patched-bytes bytes k =
+      ⊎-elim
+      (λ below. subst (λ b. b < 256) (sym (patched-below k below)) (bytes k))
+      (λ from.
+      ⊎-elim
+      (λ inner.
+      let place : p + (k - p) ≡ k = omega arith in
+      subst (λ b. b < 256) (sym (ap (λ i. getD (patched bs p x) i 0) (sym place) ∙ patched-in (k - p) (omega arith))) (four-bytes x (k - p)))
+      (λ above. subst (λ b. b < 256) (sym (patched-above k above)) (bytes k))
+      (cases-lt k (p + 4)))
+      (cases-lt k p)
 
   module _ (q : ℕ) where
     -- numbers that lie apart from the four bytes are read as before

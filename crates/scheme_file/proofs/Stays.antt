@@ -44,7 +44,7 @@ ending-ahead at None block ends = let z : _≡_ {A = ℕ} 0 1 = cc in absurd (om
 ending-ahead at (Some q) block ends = cc
 
 -- a second row block is refused
-no-second : (bs : List ℕ) (at : ℕ) → askRecord bs at true ≡ None → kindAt bs at ≡ 2 → ⊥
+pub no-second : (bs : List ℕ) (at : ℕ) → askRecord bs at true ≡ None → kindAt bs at ≡ 2 → ⊥
 no-second bs at asked kind = grind (arith, tells)
 
 ahead-before : (bs : List ℕ) (at : ℕ) (rows : Option ℕ) (block : ℕ) → askRecord bs at (isSome rows) ≡ None → Ahead (rowsFrom bs at rows) (endAt bs at) block → Ahead rows at block

@@ -1,7 +1,7 @@
 -- The questions put to a byte string, of its length and then of each record in turn. The first answered no is
 -- the refusal.
 use mathlib.Core.List.{List, [], _∷_}
-use mathlib.Core.Bool.{Bool, false, cond, not, _&&_, _||_}
+use mathlib.Core.Bool.{Bool, cond, not, _&&_, _||_}
 use Prim.Native.Nat.{ℕ, zero, suc, _+_, _/_, _%_}
 use lib.ListN.{length}
 use lib.Dec.{ltb, leb, eqb}
@@ -78,13 +78,9 @@ abbrev pub rowBlock : List ℕ → Result ℕ Refusal
 rowBlock bs = cond (leb (length bs) 65536) (walk (length bs) bs 0 None) (Err (refused File 1 0))
 
 -- The first fault of a byte string.
+abbrev pub faultOf : Result ℕ Refusal → Option Refusal
+faultOf (Ok rows) = None
+faultOf (Err refusal) = Some refusal
+
 abbrev pub fileFault : List ℕ → Option Refusal
-fileFault bs = elim (rowBlock bs) [ Ok rows ↦ None | Err refusal ↦ Some refusal ]
-
--- whether a byte string is accepted, with its row block at a place
-abbrev pub blockAt : Result ℕ Refusal → ℕ → Bool
-blockAt (Ok rows) place = eqb rows place
-blockAt (Err refusal) place = false
-
-abbrev pub acceptedAt : List ℕ → ℕ → Bool
-acceptedAt bs place = blockAt (rowBlock bs) place
+fileFault bs = faultOf (rowBlock bs)

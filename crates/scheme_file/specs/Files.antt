@@ -10,6 +10,7 @@ use Rattle.std.specs.declared.result.Result.the-variants.{Ok}
 use Rattle.scheme.specs.Scheme.{Scheme}
 use Rattle.scheme_file.specs.declared.files.SchemeFile.{SchemeFile}
 use Rattle.scheme_file.specs.Asked.{rowBlock, lengthAt}
+use Rattle.scheme_file.specs.Reading.{Bytes}
 use Rattle.scheme_file.specs.Rows.{schemeAt, rowPlace, patched}
 
 -- the bytes as they are now
@@ -37,3 +38,4 @@ pub record Accepted (f : SchemeFile) : Type 0 where
   pub found : rowBlock (fileBytes f) ≡ Ok block
   pub begin : f .rows ≡ block + 6
   pub whole : 12 * f .count ≡ lengthAt (fileBytes f) block
+  pub bytes : Bytes (fileBytes f)

@@ -2,7 +2,7 @@
 ghost use mathlib.Core.Path.{_≡_};
 ghost use Rattle.std.specs.Vec.{made};
 ghost use Rattle.scheme_file.specs.Asked.{rowBlock};
-ghost use Rattle.scheme_file.specs.Reading.{told, RowsLie};
+ghost use Rattle.scheme_file.specs.Reading.{told, Bytes, RowsLie};
 use crate::parts::Part;
 use crate::parts::part_at;
 use scheme::FileFault;
@@ -13,6 +13,7 @@ const MOST_BYTES: usize = 65536;
 pub(crate) fn row_block(bytes: &[u8]) -> Result<usize, FileFault>
     ensures answer { λ r. ⌜ told r ≡ rowBlock (now (bytes .entry)) ⌝ }
     ensures lies { λ r. ⌜ made r (RowsLie (now (bytes .entry))) ⌝ }
+    ensures bytes { λ r. ⌜ Bytes (now (bytes .entry)) ⌝ }
 {
     if bytes.len() > MOST_BYTES {
         return Err(FileFault::TooLong);

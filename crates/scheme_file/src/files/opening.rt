@@ -1,9 +1,11 @@
 // A file opened, and its bytes given back.
 ghost use mathlib.Core.Path.{_≡_};
+ghost use Rattle.std.specs.Results.{Cases};
 ghost use Rattle.std.specs.Vec.{made};
 ghost use Rattle.scheme.specs.Refusals.{fileRefusal, refusalOf};
 ghost use Rattle.scheme_file.specs.Asked.{fileFault};
-ghost use Rattle.scheme_file.specs.Files.{Accepted, fileBytes};
+ghost use Rattle.scheme_file.specs.Layout.{Means, NoFile};
+ghost use Rattle.scheme_file.specs.Files.{Accepted, fileBytes, fileScheme};
 use crate::files::SchemeFile;
 use crate::numbers::get_u32;
 use crate::reading::row_block;
@@ -14,6 +16,7 @@ impl<'a> SchemeFile<'a> {
         ensures fault { λ r. ⌜ refusalOf fileRefusal r ≡ fileFault (now (bytes .entry)) ⌝ }
         ensures same { λ r. ⌜ made r (λ f. fileBytes f ≡ now (bytes .entry)) ⌝ }
         ensures accepted { λ r. ⌜ made r Accepted ⌝ }
+        ensures means { λ r. ⌜ Cases r (λ f. Means (now (bytes .entry)) (fileScheme f)) (λ _. NoFile (now (bytes .entry))) ⌝ }
     {
         let block = row_block(bytes)?;
         let count = get_u32(bytes, block) / 12;
@@ -22,7 +25,8 @@ impl<'a> SchemeFile<'a> {
     }
 
     pub fn bytes(&self) -> &[u8]
-        ensures { λ r. ⌜ now r ≡ fileBytes (now (self .entry)) ⌝ }
+        ensures value { λ r. ⌜ now r ≡ fileBytes (now (self .entry)) ⌝ }
+        ensures means { λ r. ⌜ (Accepted (now (self .entry)) → Means (now r) (fileScheme (now (self .entry)))) ⌝ }
     {
         self.bytes
     }

@@ -24,7 +24,7 @@ returns-in-Break-part c =
     let asked = asked-of bs at (c .loop-part .rows) (c .is-some .result) _ within (c .is-some .ensures) fault in
     let p = err-from-errBy (c .from-residual .result) (c .from-residual .ensures .1) in
     rw (p .1, p .2)
-    (record { answer = sym (walking-refused bs at _ (c .loop-part .inv) (omega arith) _ within asked); lies = tt })
+    (record { answer = sym (walking-refused bs at _ (c .loop-part .inv) (omega arith) _ within asked); lies = tt; bytes = λ i. c .typed .bytes i .fits })
 
 pub loop-part-again : need.loop-part-again
 loop-part-again c =
@@ -48,6 +48,7 @@ returns-in-Some-rows c =
     record {
       answer = sym (walking-all bs _ _ (c .loop-part .inv) (omega arith) past ∙ ap (ending (c .loop-part .at)) (c .in-Some-rows .is));
       lies = cases-at-some _ _ _ (c .in-Some-rows .is) (c .loop-part .inv .lie);
+      bytes = λ i. c .typed .bytes i .fits;
     }
 
 pub returns-in-None-2 : need.returns-in-None-2
@@ -58,4 +59,5 @@ returns-in-None-2 c =
     record {
       answer = sym (walking-all bs _ _ (c .loop-part .inv) (omega arith) past ∙ ap (ending at) (c .in-None-2 .is) ∙ ending-later at (c .if-at-eq0 .left));
       lies = tt;
+      bytes = λ i. c .typed .bytes i .fits;
     }
