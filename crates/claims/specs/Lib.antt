@@ -1,2 +1,3 @@
 pub mod Sides
 pub mod Lines
+pub mod Reviews
