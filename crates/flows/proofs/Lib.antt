@@ -1,0 +1,5 @@
+pub mod Sums
+pub mod Signs
+pub mod Relaid
+pub mod Cuts
+pub mod Examples

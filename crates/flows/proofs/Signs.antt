@@ -1,0 +1,25 @@
+-- Signed differences of naturals: the terms are moved across, and the naturals do the rest.
+use mathlib.Core.Path.{_≡_}
+use Prim.Native.Nat.{ℕ, suc, _+_, _-_, _≤_}
+use native.Mathlib.Omega.{arith}
+use borrow.Author.Differences.{up, down}
+use lib.Dec.{ltb}
+use lib.IntN.{ℤ, pos, negsuc, subℕ, _+ℤ_}
+use lib.Signed.{_≤ℤ_}
+use Rattle.std.proofs.shelf.Signed.{ints}
+use Rattle.std.proofs.shelf.Tests.{cond-both, ltb-true, ltb-false}
+
+-- for `omega`: a difference of two naturals, read as `up - down`
+pub sub-is : (a b : ℕ) → up (subℕ a b) + b ≡ down (subℕ a b) + a
+sub-is a b =
+    cond-both (ltb a b) (negsuc (b - suc a)) (pos (a - b)) (λ z. up z + b ≡ down z + a)
+    (λ e. omega (arith, ltb-true a b e)) (λ e. omega (arith, ltb-false a b e))
+
+pub same-differences : (a b c d : ℕ) → a + d ≡ b + c → subℕ a b ≡ subℕ c d
+same-differences a b c d h = omega (arith, ints, sub-is a b, sub-is c d)
+
+pub difference-at-most : (a b c : ℕ) → a ≤ b + c → subℕ a b ≤ℤ pos c
+difference-at-most a b c h = omega (arith, ints, sub-is a b)
+
+pub differences-apart : (a b c d k : ℕ) → a + d ≤ b + c + k → subℕ a b ≤ℤ (subℕ c d +ℤ pos k)
+differences-apart a b c d k h = omega (arith, ints, sub-is a b, sub-is c d)

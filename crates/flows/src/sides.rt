@@ -1,0 +1,31 @@
+// What sides say of flows.
+ghost use Rattle.flows.specs.SideLaws.{ValueCrossesEachSide, NoValueExceedsASide};
+ghost use Rattle.flows.specs.SideLaws.{FlowAndSideThatMeetAreBest, NoFlowGainsMoreThanIsLeft};
+
+// The value of a lawful flow is what leaves any side less what enters it.
+pub fn value_crosses_each_side() -> bool
+    ensures { λ _. ⌜ ValueCrossesEachSide ⌝ }
+{
+    true
+}
+
+// No value exceeds the capacity of any side.
+pub fn no_value_exceeds_a_side() -> bool
+    ensures { λ _. ⌜ NoValueExceedsASide ⌝ }
+{
+    true
+}
+
+// Where a value is a side's capacity, the flow is greatest and the capacity least.
+pub fn flow_and_side_that_meet_are_best() -> bool
+    ensures { λ _. ⌜ FlowAndSideThatMeetAreBest ⌝ }
+{
+    true
+}
+
+// Another lawful flow exceeds the present one by at most what is left out of any side.
+pub fn no_flow_gains_more_than_is_left() -> bool
+    ensures { λ _. ⌜ NoFlowGainsMoreThanIsLeft ⌝ }
+{
+    true
+}
