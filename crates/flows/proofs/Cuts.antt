@@ -13,15 +13,15 @@ use Rattle.std.specs.shelf.Lists.{sumBy, All, Each}
 use Rattle.std.proofs.shelf.Lists.{length-map}
 use Rattle.std.proofs.shelf.Signed.{ints}
 use Rattle.std.proofs.shelf.Elements.{all-weaker}
-use Rattle.std.proofs.shelf.Tests.{cases-bool, cases-eq, eqb-true, eqb-false, eq-eqb, ne-eqb, both-ways}
+use Rattle.std.proofs.shelf.Tests.{cases-bool, cases-eq, eq-eqb, ne-eqb, both-ways}
 use Rattle.scheme.specs.declared.rows.Reach.{Reach}
 use Rattle.scheme.specs.Scheme.{Scheme, over, withFlows, flowsOver}
 use Rattle.scheme.specs.Flow.{Points, Side, Lawful, Greatest, inflow, outflow, value, capacity, leaves}
 use Rattle.scheme.specs.Questions.{WellFormed, Joined}
 use Rattle.flows.specs.Crossings.{enters, flowOut, flowIn, leftAcross, leftOut}
 use Rattle.flows.specs.SideLaws.{ValueCrossesEachSide, NoValueExceedsASide, NoFlowGainsMoreThanIsLeft, FlowAndSideThatMeetAreBest}
-use Rattle.flows.proofs.Sums.{all-of, sumBy-plus, sumBy-mono, each-sum-le, each-with, sumBy-balance, sumBy-when, sumBy-same, sumBelow, below-balance, below-one, below-same, exchange}
-use Rattle.flows.proofs.Signs.{same-differences, difference-at-most, differences-apart}
+use Rattle.flows.proofs.Sums.{all-of, sumBy-mono, sumBy-balance, sumBy-when, sumBy-same, sumBelow, below-balance, below-one, below-same, exchange}
+use Rattle.flows.proofs.Signs.{same-differences, difference-at-most, sub-is}
 use Rattle.flows.proofs.Relaid.{Alike, alike-self, alike-relaid, relaid-alike, formed-alike, side-alike, capacity-alike, flowList}
 
 -- what a set of points passes through one end of each reach, summed by points and by reaches
@@ -85,30 +85,31 @@ value-within s x formed lawful side =
     let out = out-within s x lawful in
     difference-at-most (outflow s (s .inlet)) (inflow s (s .inlet)) (capacity s x) (omega arith)
 
--- ---- two flows under the same limits
+-- ---- what is left out of a side
 
--- one reach: what the second flow sends out beyond the first is left
-gained : (x : Points) (r t : Reach) → Alike r t → t .flow ≤ t .limit → cond (enters x r) (r .flow) 0 + cond (leaves x t) (t .flow) 0 ≤ cond (leaves x r) (r .flow) 0 + leftAcross x r + cond (enters x t) (t .flow) 0
-gained x r t a h = rw (a .tail, a .head) (go (x (r .tail)) (x (r .head)))
-  where
-    go : (b c : Bool) → cond (c && not b) (r .flow) 0 + cond (b && not c) (t .flow) 0 ≤ cond (b && not c) (r .flow) 0 + (cond (b && not c) (r .limit - r .flow) 0 + cond (c && not b) (r .flow) 0) + cond (c && not b) (t .flow) 0
-    go true true = omega arith
-    go true false = omega (arith, a .limit)
-    go false true = omega arith
-    go false false = omega arith
+-- one reach: what leaves the set and what is left make up the limit
+made-up : (l e : Bool) (f c : ℕ) → f ≤ c → (cond l (c - f) 0 + cond e f 0) + cond l f 0 ≡ cond l c 0 + cond e f 0
+made-up true e f c h = omega arith
+made-up false e f c h = omega arith
 
-pub flow-gain : (s : Scheme) (ts : List Reach) (x : Points) → WellFormed s → Lawful s → Side s x → Each Alike (s .reaches) ts → Lawful (over s ts) → value (over s ts) ≤ℤ (value s +ℤ pos (leftOut s x))
-flow-gain s ts x formed lawful side alike lawful′ =
-    let t = over s ts in
-    let cross = crossing s x formed lawful side in
-    let cross′ = crossing t x (formed-alike s ts alike formed) lawful′ (side-alike s ts alike x side) in
-    let more = each-sum-le (λ r t. Alike r t × Unit {0} × (t .flow ≤ t .limit)) (λ r. cond (enters x r) (r .flow) 0) (λ t. cond (leaves x t) (t .flow) 0) (λ r. cond (leaves x r) (r .flow) 0 + leftAcross x r) (λ t. cond (enters x t) (t .flow) 0) (λ r t h. gained x r t (h .0) (h .2)) (s .reaches) ts (each-with Alike (λ r. Unit {0}) (λ t. t .flow ≤ t .limit) (s .reaches) ts alike (all-of _ (λ r. tt) (s .reaches)) (lawful′ .within)) in
-    let parts = sumBy-plus (λ r. cond (leaves x r) (r .flow) 0) (leftAcross x) (s .reaches) in
-    differences-apart (outflow t (s .inlet)) (inflow t (s .inlet)) (outflow s (s .inlet)) (inflow s (s .inlet)) (leftOut s x) (omega arith)
+left-and-out : (s : Scheme) (x : Points) → Lawful s → leftOut s x + flowOut s x ≡ capacity s x + flowIn s x
+left-and-out s x lawful =
+    sumBy-balance (leftAcross x) (λ r. cond (leaves x r) (r .flow) 0) (λ r. cond (leaves x r) (r .limit) 0) (λ r. cond (enters x r) (r .flow) 0) (s .reaches)
+    (all-weaker _ _ (λ r h. made-up (leaves x r) (enters x r) (r .flow) (r .limit) h) (s .reaches) (lawful .within))
+
+-- the value and what is left out of a side together are its capacity
+pub left-completes : (s : Scheme) (x : Points) → WellFormed s → Lawful s → Side s x → outflow s (s .inlet) + leftOut s x ≡ inflow s (s .inlet) + capacity s x
+left-completes s x formed lawful side =
+    let cross = crossing s x formed lawful side in let left = left-and-out s x lawful in omega arith
 
 pub relaid-gain : NoFlowGainsMoreThanIsLeft
 relaid-gain s x fs formed lawful side covers lawful′ =
-    flow-gain s (flowsOver (s .reaches) fs) x formed lawful side (alike-relaid (s .reaches) fs) lawful′
+    let ts = flowsOver (s .reaches) fs in
+    let alike = alike-relaid (s .reaches) fs in
+    let within = value-within (over s ts) x (formed-alike s ts alike formed) lawful′ (side-alike s ts alike x side) in
+    let same = capacity-alike s ts alike x in
+    let full = left-completes s x formed lawful side in
+    omega (arith, ints, sub-is (outflow s (s .inlet)) (inflow s (s .inlet)))
 
 -- ---- a flow and a side that meet
 

@@ -2,4 +2,15 @@ pub mod Sums
 pub mod Signs
 pub mod Relaid
 pub mod Cuts
+pub mod Borders
+pub mod Keys
+pub mod Orders
+pub mod Ends
+pub mod Backwards
+pub mod Steps
+pub mod WholePush
+pub mod Limits
+pub mod Gaps
+pub mod Searches
+pub mod Chains
 pub mod Examples

@@ -20,6 +20,3 @@ same-differences a b c d h = omega (arith, ints, sub-is a b, sub-is c d)
 
 pub difference-at-most : (a b c : ℕ) → a ≤ b + c → subℕ a b ≤ℤ pos c
 difference-at-most a b c h = omega (arith, ints, sub-is a b)
-
-pub differences-apart : (a b c d k : ℕ) → a + d ≤ b + c + k → subℕ a b ≤ℤ (subℕ c d +ℤ pos k)
-differences-apart a b c d k h = omega (arith, ints, sub-is a b, sub-is c d)

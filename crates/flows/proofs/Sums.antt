@@ -4,6 +4,7 @@ use mathlib.Core.List.{List, [], _∷_}
 use mathlib.Core.Bool.{Bool, true, false, cond}
 use mathlib.Core.Logic.{⊎-elim}
 use Prim.Native.Nat.{ℕ, zero, suc, _+_, _*_, _≤_, _<_}
+use native.Mathlib.Nat.{zero-mul, suc-mul}
 use native.Mathlib.Omega.{arith}
 use lib.Dec.{eqb}
 use Rattle.std.specs.shelf.Lists.{sumBy, All, Each}
@@ -16,6 +17,10 @@ module _ {X : Type 0} where
   pub all-of : (P : X → Type 0) → ((x : X) → P x) → (xs : List X) → All P xs
   all-of P h [] = tt
   all-of P h (x ∷ xs) = (h x, all-of P h xs)
+
+  pub all-both : (P Q : X → Type 0) (xs : List X) → All P xs → All Q xs → All (λ x. P x × Q x) xs
+  all-both P Q [] p q = tt
+  all-both P Q (x ∷ xs) p q = ((p .0, q .0), all-both P Q xs (p .1) (q .1))
 
   pub sumBy-none : (xs : List X) → sumBy (λ x. 0) xs ≡ 0
   sumBy-none [] = refl
@@ -72,6 +77,10 @@ below-balance a b c d n h =
 pub below-none : (n : ℕ) → sumBelow n (λ v. 0) ≡ 0
 below-none zero = refl
 below-none (suc n) = let ih = below-none n in omega arith
+
+pub below-const : (k n : ℕ) → sumBelow n (λ v. k) ≡ n * k
+below-const k zero = sym (zero-mul k)
+below-const k (suc n) = let ih = below-const k n in omega (arith, suc-mul n k)
 
 -- one point alone
 pub below-miss : (t : ℕ) (f : ℕ → ℕ) (n : ℕ) → n ≤ t → sumBelow n (λ v. cond (eqb t v) (f v) 0) ≡ 0
@@ -149,3 +158,15 @@ module _ {X : Type 0} (R : X → X → Type 0) where
   each-with P Q [] (y ∷ ys) e p q = absurd e
   each-with P Q (x ∷ xs) [] e p q = absurd e
   each-with P Q (x ∷ xs) (y ∷ ys) e p q = ((e .0, p .0, q .0), each-with P Q xs ys (e .1) (p .1) (q .1))
+
+  pub each-self : ((x : X) → R x x) → (xs : List X) → Each R xs xs
+  each-self h [] = tt
+  each-self h (x ∷ xs) = (h x, each-self h xs)
+
+  pub each-then : (S Q : X → X → Type 0) → ((x y z : X) → R x y → S y z → Q x z) → (xs ys zs : List X) → Each R xs ys → Each S ys zs → Each Q xs zs
+  each-then S Q h [] [] [] a b = tt
+  each-then S Q h [] [] (z ∷ zs) a b = absurd b
+  each-then S Q h [] (y ∷ ys) zs a b = absurd a
+  each-then S Q h (x ∷ xs) [] zs a b = absurd a
+  each-then S Q h (x ∷ xs) (y ∷ ys) [] a b = absurd b
+  each-then S Q h (x ∷ xs) (y ∷ ys) (z ∷ zs) a b = (h x y z (a .0) (b .0), each-then S Q h xs ys zs (a .1) (b .1))

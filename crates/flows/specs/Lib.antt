@@ -3,4 +3,7 @@ pub mod Ordering
 pub mod Push
 pub mod Round
 pub mod SideLaws
+pub mod OrderingLaws
+pub mod PushLaws
+pub mod RoundLaws
 pub mod Worked

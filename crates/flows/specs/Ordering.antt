@@ -4,7 +4,7 @@ use mathlib.Core.List.{List, [], _∷_, _++_}
 use mathlib.Core.Bool.{Bool, true, false, cond, _&&_, _||_}
 use Prim.Native.Nat.{ℕ, _+_, _^_, _≤_, _<_, min}
 use lib.Dec.{eqb}
-use Rattle.std.specs.shelf.Lists.{folded}
+use Rattle.std.specs.shelf.Lists.{folded, sumBy}
 use Rattle.scheme.specs.declared.rows.Reach.{Reach}
 use Rattle.scheme.specs.Scheme.{Scheme}
 use Rattle.scheme.specs.Flow.{Points, leftOn, leftBack}
@@ -18,6 +18,10 @@ among (w ∷ ws) v = eqb w v || among ws v
 abbrev pub leftTo : Points → ℕ → Reach → ℕ
 leftTo x v r =
     cond (eqb (r .head) v && x (r .tail)) (leftOn r) 0 + cond (eqb (r .tail) v && x (r .head)) (leftBack r) 0
+
+-- what is left from the points of x to the point v along all reaches
+abbrev pub leftInto : Scheme → Points → ℕ → ℕ
+leftInto s x v = sumBy (leftTo x v) (s .reaches)
 
 -- How the key of an outside point grows by what is left along one reach from a taken point.
 abbrev pub grown : ℕ → ℕ → ℕ

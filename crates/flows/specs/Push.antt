@@ -14,11 +14,11 @@ Needs = ℕ → ℕ
 
 -- at the start the outlet needs the gain and every other point 0
 abbrev pub firstNeeds : Scheme → ℕ → Needs
-firstNeeds s gain w = cond (eqb w (s .outlet)) gain 0
+firstNeeds s gain w = cond (eqb (s .outlet) w) gain 0
 
 -- a of what v needs is now needed at u
 abbrev pub moved : ℕ → ℕ → ℕ → Needs → Needs
-moved a v u needs w = needs w + cond (eqb w u) a 0 - cond (eqb w v) a 0
+moved a v u needs w = needs w + cond (eqb u w) a 0 - cond (eqb v w) a 0
 
 -- A reach joins v with an earlier point, of the set x: towards v from tail to head, or from head to tail.
 -- It takes the smaller of what v still needs and what is left along it towards v.
@@ -39,10 +39,17 @@ pushedAll x v (r ∷ rs) needs =
 -- back through an order, given latest first, to the point after its first
 abbrev pub pushBack : List ℕ → List Reach → Needs → List Reach × Needs
 pushBack [] rs needs = (rs, needs)
-pushBack (v ∷ ws) rs needs = let here = pushedAll (among ws) v rs needs in pushBack ws (here .0) (here .1)
+pushBack (v ∷ []) rs needs = (rs, needs)
+pushBack (v ∷ (w ∷ ws)) rs needs =
+    let here = pushedAll (among (w ∷ ws)) v rs needs in pushBack (w ∷ ws) (here .0) (here .1)
 
 abbrev pub pushAlong : Scheme → List ℕ → ℕ → List Reach × Needs
 pushAlong s order gain = pushBack (reverse order) (s .reaches) (firstNeeds s gain)
+
+-- A stage of a push: the points still to come, latest first, and the reaches and the needs as they stand.
+pub data Stage (s : Scheme) (order : List ℕ) (gain : ℕ) : List ℕ → List Reach → Needs → Type 0 where
+  begins : Stage s order gain (reverse order) (s .reaches) (firstNeeds s gain)
+  goes-on : {v w : ℕ} {ws : List ℕ} {rs : List Reach} {needs : Needs} → Stage s order gain (v ∷ (w ∷ ws)) rs needs → Stage s order gain (w ∷ ws) (pushedAll (among (w ∷ ws)) v rs needs .0) (pushedAll (among (w ∷ ws)) v rs needs .1)
 
 -- the scheme with the new flows, and what each point needs in the end
 abbrev pub push : Scheme → List ℕ → ℕ → Scheme

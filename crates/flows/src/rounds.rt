@@ -1,0 +1,46 @@
+// What rounds do to the gap, and where they end.
+ghost use Prim.Native.Nat.{_-_};
+ghost use Rattle.flows.specs.RoundLaws.{EverySchemeHasOneGap, RoundGainsWhileThereIsAGap, RoundsCloseTheGap};
+ghost use Rattle.flows.specs.RoundLaws.{ChainsAreBounded, EverySchemeSettles, SettledIsGreatest};
+
+// Every lawful scheme has exactly one gap.
+pub fn every_scheme_has_one_gap() -> bool
+    ensures { λ _. ⌜ EverySchemeHasOneGap ⌝ }
+{
+    true
+}
+
+// A round gains 0 exactly if the gap is 0.
+pub fn round_gains_while_there_is_a_gap() -> bool
+    ensures { λ _. ⌜ RoundGainsWhileThereIsAGap ⌝ }
+{
+    true
+}
+
+// On n points, n - 1 times the gap after a round that gains is at most n - 2 times the gap before it.
+pub fn rounds_close_the_gap() -> bool
+    ensures { λ _. ⌜ RoundsCloseTheGap (λ n. n - 1) (λ n. n - 2) ⌝ }
+{
+    true
+}
+
+// A chain of rounds that gain is no longer than the gap, nor than what is left out of any side.
+pub fn chains_are_bounded() -> bool
+    ensures { λ _. ⌜ ChainsAreBounded ⌝ }
+{
+    true
+}
+
+// From every lawful scheme some chain ends with a round that gains 0.
+pub fn every_scheme_settles() -> bool
+    ensures { λ _. ⌜ EverySchemeSettles ⌝ }
+{
+    true
+}
+
+// Where a chain ends so, the value is the greatest.
+pub fn settled_is_greatest() -> bool
+    ensures { λ _. ⌜ SettledIsGreatest ⌝ }
+{
+    true
+}
