@@ -1,7 +1,7 @@
 -- A published side as a list of marks, one for each point, and the questions of its review.
 use mathlib.Core.Path.{_≡_}
 use mathlib.Core.List.{List, [], _∷_, _++_}
-use mathlib.Core.Bool.{Bool, true, false, cond, not, _&&_}
+use mathlib.Core.Bool.{Bool, true, false, cond, not, _&&_, _||_}
 use Prim.Native.Nat.{ℕ, _≤_}
 use lib.ListN.{length, getD}
 use lib.Dec.{leb, eqb}
@@ -23,6 +23,10 @@ pub record MarksSide (s : Scheme) (marks : List ℕ) : Type 0 where
   pub count : length marks ≡ s .points
   pub bits : All (λ m. m ≤ 1) marks
   pub side : Side s (marked marks)
+
+-- May this mark stand at a point? At the inlet 1, at the outlet 0, elsewhere either.
+abbrev pub fitting : Bool → Bool → ℕ → Bool
+fitting inlet outlet m = leb m 1 && (not inlet || eqb m 1) && (not outlet || eqb m 0)
 
 abbrev pub allBits : List ℕ → Bool
 allBits [] = true
@@ -47,5 +51,9 @@ tight s marks = isNumber (value s) (capacity s (marked marks))
 abbrev pub askCapacity : Scheme → List ℕ → Question
 askCapacity s marks = cond (tight s marks) None (Some (refused Call 16 0))
 
+-- what is asked of the marks
+abbrev pub sideQuestions : Scheme → List ℕ → List Question
+sideQuestions s marks = askSide s marks ∷ askCapacity s marks ∷ []
+
 abbrev pub checkQuestions : Scheme → List ℕ → List Question
-checkQuestions s marks = bookQuestions s ++ askSide s marks ∷ askCapacity s marks ∷ []
+checkQuestions s marks = bookQuestions s ++ sideQuestions s marks

@@ -74,9 +74,12 @@ askBalance s = mapped (refused Book 9) (firstPoint (steady s) 0 (s .points))
 abbrev pub formQuestions : Scheme → List Question
 formQuestions s = askShape s ∷ askEnds s ∷ []
 
--- what is asked of a book that has a flow
+-- what is asked of its flow
+abbrev pub flowQuestions : Scheme → List Question
+flowQuestions s = askFlows s ∷ askBalance s ∷ []
+
 abbrev pub bookQuestions : Scheme → List Question
-bookQuestions s = formQuestions s ++ askFlows s ∷ askBalance s ∷ []
+bookQuestions s = formQuestions s ++ flowQuestions s
 
 -- What the form questions ask, as facts: a well-formed register.
 pub record Joined (s : Scheme) (r : Reach) : Type 0 where

@@ -30,6 +30,10 @@ limitAt s k = mapped (λ r. r .limit) (nth (s .reaches) k)
 abbrev pub flowAt : Scheme → ℕ → Option ℕ
 flowAt s k = mapped (λ r. r .flow) (nth (s .reaches) k)
 
+-- a reach of zeros, which stands where a list has none
+abbrev pub noReach : Reach
+noReach = record { tail = 0; head = 0; limit = 0; flow = 0 }
+
 -- a reach with another limit (capacity), and with another flow
 abbrev pub limited : ℕ → Reach → Reach
 limited x r = record { tail = r .tail; head = r .head; limit = x; flow = r .flow }
