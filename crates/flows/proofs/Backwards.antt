@@ -1,5 +1,5 @@
 -- An order as the push goes through it, latest point first.
-use mathlib.Core.Path.{_≡_, refl, sym, _∙_, ap, subst, fun-ext}
+use mathlib.Core.Path.{_≡_, refl, _∙_, ap, fun-ext}
 use mathlib.Core.List.{List, [], _∷_, _++_, reverse, reverse-cons}
 use mathlib.Core.Bool.{Bool, true, false, _||_}
 use Prim.Native.Nat.{ℕ, _≤_, _<_, min}
@@ -7,11 +7,10 @@ use native.Mathlib.Omega.{arith}
 use lib.Dec.{eqb}
 use Rattle.std.proofs.shelf.Lists.{reverse-append}
 use Rattle.scheme.specs.Scheme.{Scheme}
-use Rattle.scheme.specs.Flow.{Points}
-use Rattle.flows.specs.Ordering.{among, leftInto, key, least, Next, Taken, Made}
+use Rattle.flows.specs.Ordering.{among, leftInto, least, Next, Taken, Made}
 use Rattle.flows.specs.Ordering.Taken.{first, next}
 use Rattle.flows.specs.Ordering.Made.{arrives, stops}
-use Rattle.flows.proofs.Keys.{key-at-most-left}
+use Rattle.flows.proofs.Keys.{key-at-most-left, least-at-most}
 use Rattle.flows.proofs.Orders.{among-push, among-last, least-push}
 
 -- enough is left from the earlier points to each point after the inlet
@@ -30,10 +29,6 @@ among-reverse [] u = refl
 among-reverse (w ∷ ws) u =
     ap (λ vs. among vs u) (reverse-cons w ws) ∙ among-push (reverse ws) w u
     ∙ ap (λ b. b || eqb w u) (among-reverse ws u) ∙ or-turned (among ws u) (eqb w u)
-
-least-at-most : (ks : List ℕ) (k : ℕ) → least ks k ≤ k
-least-at-most [] k = omega arith
-least-at-most (j ∷ ks) k = omega (arith, least-at-most ks k)
 
 module _ (s : Scheme) (gain : ℕ) where
   ready-next : (ws : List ℕ) (v k : ℕ) → Next s (among ws) v k → gain ≤ k → Ready s gain (reverse ws) → Ready s gain (reverse (ws ++ v ∷ []))

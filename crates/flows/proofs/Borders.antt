@@ -1,17 +1,16 @@
 -- What is left out of a set of points, summed by the points outside.
-use mathlib.Core.Path.{_≡_, refl, sym, _∙_, ap}
-use mathlib.Core.List.{List}
+use mathlib.Core.Path.{_≡_, refl, _∙_, ap}
 use mathlib.Core.Bool.{Bool, true, false, cond, not, _&&_}
-use Prim.Native.Nat.{ℕ, _+_, _-_, _≤_, _<_}
+use Prim.Native.Nat.{ℕ, _+_, _≤_, _<_}
 use native.Mathlib.Omega.{arith}
 use lib.Dec.{eqb}
-use Rattle.std.specs.shelf.Lists.{sumBy, All}
+use Rattle.std.specs.shelf.Lists.{sumBy}
 use Rattle.std.proofs.shelf.Elements.{all-weaker}
 use Rattle.std.proofs.shelf.Tests.{and-parts, and-from, eqb-true, not-from-false}
 use Rattle.scheme.specs.declared.rows.Reach.{Reach}
 use Rattle.scheme.specs.Scheme.{Scheme}
 use Rattle.scheme.specs.Flow.{Points, leaves, leftOn, leftBack}
-use Rattle.scheme.specs.Questions.{WellFormed, Joined}
+use Rattle.scheme.specs.Questions.{WellFormed}
 use Rattle.flows.specs.Crossings.{enters, leftAcross, leftOut}
 use Rattle.flows.specs.Ordering.{leftTo, leftInto}
 use Rattle.flows.proofs.Sums.{all-of, sumBy-mono, sumBy-same, sumBy-when, sumBelow, below-plus, below-one, below-same, exchange}

@@ -1,12 +1,12 @@
 -- Chains of rounds.
 use mathlib.Core.Path.{_≡_, refl, sym, _∙_, ap, subst}
 use mathlib.Core.List.{List, [], _∷_}
-use mathlib.Core.Bool.{Bool, true, false, cond}
-use mathlib.Core.Logic.{_⊎_, inl, inr, ⊎-elim, _≢_}
+use mathlib.Core.Bool.{false}
+use mathlib.Core.Logic.{_⊎_, inl, inr, ⊎-elim}
 use Prim.Native.Nat.{ℕ, zero, suc, _+_, _≤_, _<_}
 use native.Mathlib.Omega.{arith}
 use lib.Dec.{eqb}
-use lib.IntN.{ℤ, pos, _+ℤ_}
+use lib.IntN.{pos, _+ℤ_}
 use Rattle.std.proofs.shelf.Signed.{ints}
 use Rattle.std.proofs.shelf.Tests.{cases-lt, eq-eqb, ne-eqb, cond-false, or-left, or-from}
 use Rattle.scheme.specs.Scheme.{Scheme}
@@ -15,14 +15,14 @@ use Rattle.scheme.specs.Questions.{WellFormed}
 use Rattle.flows.specs.Crossings.{leftOut}
 use Rattle.flows.specs.Ordering.{among, Made}
 use Rattle.flows.specs.Push.{push}
-use Rattle.flows.specs.PushLaws.{SameLimits, Pushed}
-use Rattle.flows.specs.Round.{Round, Rounds, Settled}
+use Rattle.flows.specs.PushLaws.{SameLimits}
+use Rattle.flows.specs.Round.{Round, Rounds}
 use Rattle.flows.specs.Round.Rounds.{none, more}
-use Rattle.flows.specs.RoundLaws.{HasOrdering, OneGap, EverySchemeHasOneGap, Chain, ChainsAreBounded, CanSettle, EverySchemeSettles, SettledIsGreatest}
+use Rattle.flows.specs.RoundLaws.{EverySchemeHasOneGap, ChainsAreBounded, CanSettle, EverySchemeSettles, SettledIsGreatest}
 use Rattle.flows.proofs.Signs.{sub-is}
 use Rattle.flows.proofs.Cuts.{left-completes}
 use Rattle.flows.proofs.Ends.{no-gain-least-side}
-use Rattle.flows.proofs.Gaps.{gap-is, gap-within-side, round-pushes}
+use Rattle.flows.proofs.Gaps.{gap-is, round-raises}
 use Rattle.flows.proofs.Limits.{same-limits-self, limits-then, limits-formed, limits-side, limits-capacity, limits-greatest, greatest-once, greatest-most}
 use Rattle.flows.proofs.WholePush.{push-raises}
 use Rattle.flows.proofs.Searches.{has-ordering}
@@ -39,16 +39,13 @@ come-along : {s t : Scheme} {count : ℕ} → WellFormed s → Lawful s → Roun
 come-along {s} formed lawful none =
     record { limits = same-limits-self s; lawful = lawful; gained = 0; raised = omega (arith, ints); each-gains = omega arith }
 come-along {s} formed lawful (more {t = t} {u = u} {order = order} {keys = keys} {gain = gain} round some rest) =
-    let pushed = push-raises s order keys gain formed lawful (round .made) some in
-    let is = round-pushes s t order keys gain some round in
-    let limits = subst (SameLimits s) (sym is) (pushed .limits) in
-    let further = come-along (limits-formed s t limits formed) (subst Lawful (sym is) (pushed .lawful)) rest in
-    let raised = ap value is ∙ pushed .raised in
+    let leaves = round-raises s t order keys gain formed lawful round in
+    let further = come-along (limits-formed s t (leaves .limits) formed) (leaves .lawful) rest in
     record {
-      limits = limits-then s t limits u (further .limits);
+      limits = limits-then s t (leaves .limits) u (further .limits);
       lawful = further .lawful;
       gained = gain + further .gained;
-      raised = omega (arith, ints, raised, further .raised);
+      raised = omega (arith, ints, leaves .raised, further .raised);
       each-gains = omega (arith, further .each-gains);
     }
 

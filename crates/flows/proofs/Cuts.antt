@@ -1,15 +1,14 @@
 -- What leaves a side and what enters it.
 use mathlib.Core.Path.{_≡_, refl, sym, _∙_, ap}
-use mathlib.Core.List.{List, [], _∷_}
+use mathlib.Core.List.{List}
 use mathlib.Core.Bool.{Bool, true, false, cond, not, _&&_}
-use mathlib.Core.Logic.{⊎-elim, _≢_}
+use mathlib.Core.Logic.{⊎-elim}
 use Prim.Native.Nat.{ℕ, _+_, _-_, _≤_, _<_}
 use lib.ListN.{length}
 use native.Mathlib.Omega.{arith}
 use lib.Dec.{eqb}
-use lib.IntN.{pos, subℕ, _+ℤ_}
 use lib.Signed.{_≤ℤ_}
-use Rattle.std.specs.shelf.Lists.{sumBy, All, Each}
+use Rattle.std.specs.shelf.Lists.{sumBy, All}
 use Rattle.std.proofs.shelf.Lists.{length-map}
 use Rattle.std.proofs.shelf.Signed.{ints}
 use Rattle.std.proofs.shelf.Elements.{all-weaker}
@@ -17,12 +16,12 @@ use Rattle.std.proofs.shelf.Tests.{cases-bool, cases-eq, eq-eqb, ne-eqb, both-w
 use Rattle.scheme.specs.declared.rows.Reach.{Reach}
 use Rattle.scheme.specs.Scheme.{Scheme, over, withFlows, flowsOver}
 use Rattle.scheme.specs.Flow.{Points, Side, Lawful, Greatest, inflow, outflow, value, capacity, leaves}
-use Rattle.scheme.specs.Questions.{WellFormed, Joined}
+use Rattle.scheme.specs.Questions.{WellFormed}
 use Rattle.flows.specs.Crossings.{enters, flowOut, flowIn, leftAcross, leftOut}
 use Rattle.flows.specs.SideLaws.{ValueCrossesEachSide, NoValueExceedsASide, NoFlowGainsMoreThanIsLeft, FlowAndSideThatMeetAreBest}
 use Rattle.flows.proofs.Sums.{all-of, sumBy-mono, sumBy-balance, sumBy-when, sumBy-same, sumBelow, below-balance, below-one, below-same, exchange}
 use Rattle.flows.proofs.Signs.{same-differences, difference-at-most, sub-is}
-use Rattle.flows.proofs.Relaid.{Alike, alike-self, alike-relaid, relaid-alike, formed-alike, side-alike, capacity-alike, flowList}
+use Rattle.flows.proofs.Relaid.{alike-self, alike-relaid, relaid-alike, formed-alike, side-alike, capacity-alike, flowList}
 
 -- what a set of points passes through one end of each reach, summed by points and by reaches
 by-ends : (x : Points) (end : Reach → ℕ) (n : ℕ) (rs : List Reach) → All (λ r. end r < n) rs → sumBelow n (λ v. cond (x v) (sumBy (λ r. cond (eqb (end r) v) (r .flow) 0) rs) 0) ≡ sumBy (λ r. cond (x (end r)) (r .flow) 0) rs

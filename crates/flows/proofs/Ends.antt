@@ -1,11 +1,10 @@
 -- Where an ordering gains nothing.
 use mathlib.Core.Path.{_≡_, refl, sym, _∙_, ap}
-use mathlib.Core.List.{List, [], _∷_, _++_}
-use mathlib.Core.Bool.{Bool, true, false, cond, not}
-use mathlib.Core.Logic.{⊎-elim, _≢_}
-use Prim.Native.Nat.{ℕ, _+_, _≤_, _<_}
+use mathlib.Core.List.{List, []}
+use mathlib.Core.Bool.{true, false}
+use mathlib.Core.Logic.{⊎-elim}
+use Prim.Native.Nat.{ℕ, _<_}
 use native.Mathlib.Omega.{arith}
-use lib.Dec.{eqb}
 use lib.IntN.{pos}
 use Rattle.std.proofs.shelf.Tests.{cases-bool, both-ways}
 use Rattle.std.proofs.shelf.Signed.{ints}
@@ -13,11 +12,11 @@ use Rattle.scheme.specs.Scheme.{Scheme}
 use Rattle.scheme.specs.Flow.{Points, Side, Lawful, value, capacity, inflow, outflow}
 use Rattle.scheme.specs.Questions.{WellFormed}
 use Rattle.flows.specs.Crossings.{leftOut}
-use Rattle.flows.specs.Ordering.{among, leftInto, key, least, Next, Taken, Made}
+use Rattle.flows.specs.Ordering.{among, leftInto, least, Next, Taken, Made}
 use Rattle.flows.specs.Ordering.Taken.{first, next}
 use Rattle.flows.specs.Ordering.Made.{arrives, stops}
 use Rattle.flows.specs.OrderingLaws.{LeastSide, NoGainFindsTheLeastSide}
-use Rattle.flows.proofs.Sums.{sumBelow, below-same, below-none}
+use Rattle.flows.proofs.Sums.{below-same, below-none}
 use Rattle.flows.proofs.Signs.{sub-is}
 use Rattle.flows.proofs.Cuts.{left-completes, meet-best}
 use Rattle.flows.proofs.Borders.{outsideOf, left-by-points, left-within}

@@ -12,7 +12,7 @@ use Rattle.scheme.specs.Flow.{Points}
 use Rattle.flows.specs.Ordering.{among, key, least, Next, Taken, Made}
 use Rattle.flows.specs.Ordering.Taken.{first, next}
 use Rattle.flows.specs.Ordering.Made.{arrives, stops}
-use Rattle.flows.specs.Round.{Round, Rounds, Settled}
+use Rattle.flows.specs.Round.{Round}
 use Rattle.flows.specs.Round.Rounds.{none, more}
 use Rattle.flows.specs.Worked.{example, afterOne, afterTwo, widened, widenedAfter, twins, backward, diamond, WorkedSchemes}
 
@@ -88,7 +88,7 @@ three =
 then-inlet-alone : Made widenedAfter (0 ∷ []) [] 0
 then-inlet-alone = stopped widenedAfter (0 ∷ []) [] 1 first refl
 
-pub worked : WorkedSchemes
+pub worked : WorkedSchemes 5 3
 worked =
     record {
       round-one = one;

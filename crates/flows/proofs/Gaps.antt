@@ -1,35 +1,31 @@
 -- What an ordering says of the gap.
 use mathlib.Core.Path.{_≡_, refl, sym, _∙_, ap, subst}
-use mathlib.Core.List.{List, [], _∷_, _++_}
-use mathlib.Core.Bool.{Bool, true, false, cond, not}
-use mathlib.Core.Logic.{_⊎_, inl, inr, ⊎-elim, _≢_}
-use Prim.Native.Nat.{ℕ, zero, suc, _+_, _-_, _*_, _≤_, _<_, min}
+use mathlib.Core.List.{List}
+use mathlib.Core.Bool.{Bool, true, false, cond}
+use mathlib.Core.Logic.{_⊎_, inl, inr, ⊎-elim}
+use Prim.Native.Nat.{ℕ, _+_, _-_, _*_, _≤_, _<_, min}
 use native.Mathlib.Nat.{mul-add, add-mul}
 use native.Mathlib.Omega.{arith}
 use lib.Dec.{eqb}
 use lib.IntN.{ℤ, pos, _+ℤ_}
-use lib.Signed.{_≤ℤ_}
 use Rattle.std.proofs.shelf.Signed.{ints}
-use Rattle.std.proofs.shelf.Tests.{cases-bool, cases-eq, cases-lt, both-ways, ne-eqb, cond-false}
+use Rattle.std.proofs.shelf.Tests.{cases-bool, cases-lt, both-ways, eq-eqb, ne-eqb, cond-true, cond-false}
 use Rattle.scheme.specs.Scheme.{Scheme}
-use Rattle.scheme.specs.Flow.{Points, Side, Lawful, Greatest, Gap, value, inflow, outflow}
+use Rattle.scheme.specs.Flow.{Points, Side, Lawful, Gap, value}
 use Rattle.scheme.specs.Questions.{WellFormed}
 use Rattle.flows.specs.Crossings.{leftOut}
-use Rattle.flows.specs.Ordering.{among, leftInto, key, least, Next, Taken, Made}
+use Rattle.flows.specs.Ordering.{among, leftInto, least, Next, Taken, Made}
 use Rattle.flows.specs.Ordering.Taken.{first, next}
 use Rattle.flows.specs.Ordering.Made.{arrives, stops}
 use Rattle.flows.specs.Push.{push}
-use Rattle.flows.specs.PushLaws.{SameLimits, Pushed}
-use Rattle.flows.specs.Round.{Round}
-use Rattle.flows.specs.OrderingLaws.{LeastSide}
-use Rattle.flows.specs.RoundLaws.{GainsWithTheGap, RoundGainsWhileThereIsAGap, GapFalls, RoundsCloseTheGap}
-use Rattle.flows.proofs.Sums.{sumBelow, below-mono, below-plus, below-one, below-const}
-use Rattle.flows.proofs.Signs.{sub-is}
+use Rattle.flows.specs.PushLaws.{SameLimits}
+use Rattle.flows.specs.RoundLaws.{RoundRaisesTheValueByTheGain, GainsWithTheGap, RoundGainsWhileThereIsAGap, RoundsCloseTheGap}
+use Rattle.flows.proofs.Sums.{below-mono, below-plus, below-one, below-const}
 use Rattle.flows.proofs.Borders.{outsideOf, left-by-points}
 use Rattle.flows.proofs.Cuts.{relaid-gain}
 use Rattle.flows.proofs.Ends.{no-gain-least-side}
 use Rattle.flows.proofs.Keys.{left-at-most-key}
-use Rattle.flows.proofs.Limits.{limits-greatest, greatest-once, greatest-most}
+use Rattle.flows.proofs.Limits.{same-limits-self, limits-greatest, greatest-once, greatest-most}
 use Rattle.flows.proofs.Orders.{taken-inlet, taken-lacks-outlet, least-push}
 use Rattle.flows.proofs.WholePush.{push-raises}
 
@@ -120,17 +116,32 @@ part-of-gap : (m gain old new : ℕ) → old ≡ new + gain → old + gain ≤ (
 part-of-gap m gain old new falls most =
     omega (arith, add-mul m 2 gain, add-mul m 1 new, ap (λ k. m * k) falls, mul-add m new gain)
 
-pub round-pushes : (s t : Scheme) (order keys : List ℕ) (gain : ℕ) → 0 < gain → Round s order keys gain t → t ≡ push s order gain
-round-pushes s t order keys gain some round =
-    round .after ∙ cond-false (eqb gain 0) s (push s order gain) (ne-eqb gain 0 (omega arith))
+pub round-raises : RoundRaisesTheValueByTheGain
+round-raises s t order keys gain formed lawful round =
+    ⊎-elim
+    (λ (some : 0 < gain).
+    let is = round .after ∙ cond-false (eqb gain 0) s (push s order gain) (ne-eqb gain 0 (omega arith)) in
+    let pushed = push-raises s order keys gain formed lawful (round .made) some in
+    record {
+      limits = subst (SameLimits s) (sym is) (pushed .limits);
+      lawful = subst Lawful (sym is) (pushed .lawful);
+      raised = ap value is ∙ pushed .raised;
+    })
+    (λ (end : gain ≤ 0).
+    let zero : gain ≡ 0 = omega arith in
+    let is = round .after ∙ cond-true (eqb gain 0) s (push s order gain) (eq-eqb gain 0 zero) in
+    record {
+      limits = subst (SameLimits s) (sym is) (same-limits-self s);
+      lawful = subst Lawful (sym is) lawful;
+      raised = ap value is ∙ omega (arith, ints, zero);
+    })
+    (cases-lt 0 gain)
 
 pub rounds-close : RoundsCloseTheGap (λ n. n - 1) (λ n. n - 2)
 rounds-close s t order keys gain old new formed lawful round some gap gap′ =
-    let pushed = push-raises s order keys gain formed lawful (round .made) some in
-    let is = round-pushes s t order keys gain some round in
-    let same = greatest-once s (gap-is s old) (gap-is t new) gap (limits-greatest s t (subst (SameLimits s) (sym is) (pushed .limits)) (gap-is t new) gap′) in
-    let raised = ap value is ∙ pushed .raised in
-    let falls : old ≡ new + gain = omega (arith, ints, same, raised) in
+    let leaves = round-raises s t order keys gain formed lawful round in
+    let same = greatest-once s (gap-is s old) (gap-is t new) gap (limits-greatest s t (leaves .limits) (gap-is t new) gap′) in
+    let falls : old ≡ new + gain = omega (arith, ints, same, leaves .raised) in
     let place = narrow s gain some (round .made) in
     let left = narrow-left s gain formed place in
     let within = gap-within-side s (among (place .points)) old formed lawful (narrow-side s gain formed place) gap in

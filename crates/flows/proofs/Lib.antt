@@ -2,9 +2,11 @@ pub mod Sums
 pub mod Signs
 pub mod Relaid
 pub mod Cuts
+pub mod Reviews
 pub mod Borders
 pub mod Keys
 pub mod Orders
+pub mod Fits
 pub mod Ends
 pub mod Backwards
 pub mod Steps

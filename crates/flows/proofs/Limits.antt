@@ -1,16 +1,16 @@
 -- Schemes under the same limits.
-use mathlib.Core.Path.{_≡_, refl, sym, _∙_, ap, subst}
+use mathlib.Core.Path.{_≡_, sym, _∙_, ap, subst}
 use mathlib.Core.List.{List}
-use Prim.Native.Nat.{ℕ, _+_, _≤_}
+use Prim.Native.Nat.{ℕ}
 use native.Mathlib.Omega.{arith}
 use lib.ListN.{length}
-use lib.IntN.{ℤ, pos, _+ℤ_}
+use lib.IntN.{ℤ}
 use lib.Signed.{_≤ℤ_}
 use Rattle.std.proofs.shelf.Elements.{length-each}
 use Rattle.std.proofs.shelf.Lists.{length-map}
 use Rattle.std.proofs.shelf.Signed.{ints}
 use Rattle.scheme.specs.Scheme.{Scheme, over, withFlows, flowsOver}
-use Rattle.scheme.specs.Flow.{Points, Side, Lawful, Greatest, Gap, value, capacity}
+use Rattle.scheme.specs.Flow.{Points, Side, Lawful, Greatest, value, capacity}
 use Rattle.scheme.specs.Questions.{WellFormed}
 use Rattle.flows.specs.PushLaws.{SameLimits}
 use Rattle.flows.proofs.Relaid.{Alike, alike-relaid, relaid-over-alike, formed-alike, side-alike, capacity-alike, flowList}
@@ -43,9 +43,6 @@ module _ (s t : Scheme) (same : SameLimits s t) where
   pub limits-formed : WellFormed s → WellFormed t
   limits-formed formed =
       rw (same .relaid) (formed-alike s (flowsOver (s .reaches) (same .flows)) (alike-relaid (s .reaches) (same .flows)) formed)
-
-  pub limits-points : t .points ≡ s .points
-  limits-points = ap (λ u. u .points) (same .relaid)
 
   pub limits-side : (x : Points) → Side s x → Side t x
   limits-side x side =

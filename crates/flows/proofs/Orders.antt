@@ -1,19 +1,15 @@
 -- Orders as they are built, point by point.
 use mathlib.Core.Path.{_≡_, refl, sym, _∙_, ap}
 use mathlib.Core.List.{List, [], _∷_, _++_}
-use mathlib.Core.Bool.{Bool, true, false, cond, not, _&&_, _||_}
+use mathlib.Core.Bool.{true, false, _||_}
 use mathlib.Core.Logic.{⊎-elim, _≢_}
-use Prim.Native.Nat.{ℕ, _+_, _≤_, _<_, min}
+use Prim.Native.Nat.{ℕ, _<_, min}
 use native.Mathlib.Omega.{arith}
 use lib.Dec.{eqb}
-use Rattle.std.proofs.shelf.Tests.{cases-bool, or-cases, or-left, or-right, or-from, both-ways, eqb-true, eq-eqb, ne-eqb}
+use Rattle.std.proofs.shelf.Tests.{or-cases, or-left, or-right, or-from, eqb-true, eq-eqb, ne-eqb}
 use Rattle.scheme.specs.Scheme.{Scheme}
-use Rattle.scheme.specs.Flow.{Points}
-use Rattle.scheme.specs.Questions.{WellFormed}
-use Rattle.flows.specs.Ordering.{among, leftInto, key, least, Next, Taken, Made}
+use Rattle.flows.specs.Ordering.{among, least, Taken}
 use Rattle.flows.specs.Ordering.Taken.{first, next}
-use Rattle.flows.specs.Ordering.Made.{arrives, stops}
-use Rattle.flows.proofs.Keys.{key-at-most-left}
 
 -- the points after one more
 pub among-push : (ws : List ℕ) (v u : ℕ) → among (ws ++ v ∷ []) u ≡ (among ws u || eqb v u)

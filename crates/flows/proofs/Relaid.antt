@@ -1,14 +1,14 @@
 -- Other flows laid over the same reaches.
-use mathlib.Core.Path.{_≡_, refl, ap, ap₂, sym, _∙_}
+use mathlib.Core.Path.{_≡_, refl, ap₂, sym}
 use mathlib.Core.List.{List, [], _∷_, map}
 use mathlib.Core.Bool.{cond}
-use Prim.Native.Nat.{ℕ, suc, _+_}
+use Prim.Native.Nat.{ℕ}
 use native.Mathlib.Omega.{arith}
 use lib.ListN.{length}
-use Rattle.std.specs.shelf.Lists.{sumBy, All, Each}
+use Rattle.std.specs.shelf.Lists.{Each}
 use Rattle.std.proofs.shelf.Elements.{length-each}
 use Rattle.scheme.specs.declared.rows.Reach.{Reach}
-use Rattle.scheme.specs.Scheme.{Scheme, flowing, flowsOver, withFlows, over}
+use Rattle.scheme.specs.Scheme.{Scheme, flowing, flowsOver, over}
 use Rattle.scheme.specs.Flow.{Points, Side, capacity, leaves}
 use Rattle.scheme.specs.Questions.{WellFormed, Joined}
 use Rattle.flows.proofs.Sums.{each-all, each-same}

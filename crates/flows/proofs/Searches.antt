@@ -1,22 +1,23 @@
 -- Some ordering of every scheme: the next point is found by looking at all.
-use mathlib.Core.Path.{_≡_, refl, sym, _∙_, ap, subst}
+use mathlib.Core.Path.{_≡_, refl}
 use mathlib.Core.List.{List, [], _∷_, _++_}
-use mathlib.Core.Bool.{Bool, true, false, cond, not, _||_}
-use mathlib.Core.Logic.{_⊎_, inl, inr, ⊎-elim, _≢_}
-use Prim.Native.Nat.{ℕ, zero, suc, _+_, _≤_, _<_}
+use mathlib.Core.Bool.{true, false}
+use mathlib.Core.Logic.{_⊎_, inl, inr, ⊎-elim}
+use Prim.Native.Nat.{ℕ, zero, suc, _≤_, _<_}
 use native.Mathlib.Omega.{arith}
 use lib.Dec.{eqb}
-use Rattle.std.proofs.shelf.Tests.{cases-bool, cases-eq, cases-lt, both-ways, eqb-true, ne-eqb}
+use Rattle.std.proofs.shelf.Tests.{cases-bool, cases-eq, cases-lt, both-ways, eqb-true}
 use Rattle.scheme.specs.Scheme.{Scheme}
-use Rattle.scheme.specs.Flow.{Points, Lawful}
+use Rattle.scheme.specs.Flow.{Points}
 use Rattle.scheme.specs.Questions.{WellFormed}
 use Rattle.flows.specs.Ordering.{among, key, least, Outside, Next, Taken, Made}
 use Rattle.flows.specs.Ordering.Taken.{first, next}
 use Rattle.flows.specs.Ordering.Made.{arrives, stops}
 use Rattle.flows.specs.RoundLaws.{HasOrdering, EverySchemeHasAnOrdering}
-use Rattle.flows.proofs.Sums.{sumBelow, below-mono, below-plus, below-one, below-term}
+use Rattle.flows.proofs.Sums.{below-term}
 use Rattle.flows.proofs.Borders.{outsideOf}
-use Rattle.flows.proofs.Orders.{among-push, taken-lacks-outlet}
+use Rattle.flows.proofs.Orders.{taken-lacks-outlet}
+use Rattle.flows.proofs.Fits.{outsiders, fewer}
 
 below-suc : (P : ℕ → Type 0) (m : ℕ) → ((w : ℕ) → w < m → P w) → P m → (w : ℕ) → w < suc m → P w
 below-suc P m below here w l =
@@ -76,25 +77,6 @@ module _ (s : Scheme) (x : Points) where
       ⊎-elim (λ all. absurd (both-ways (x u) (out .1) (all u (out .0))))
       (λ (best : Best s x (s .points)). (best .point, record { outside = best .outside; is = refl; greatest = λ w o. best .most w (o .0) (o .1) }))
       (best-below (s .points) (omega arith))
-
--- the number of points outside, which falls with each point taken
-abbrev outsiders : Scheme → Points → ℕ
-outsiders s x = sumBelow (s .points) (outsideOf x (λ w. 1))
-
-fewer : (s : Scheme) (ws : List ℕ) (v : ℕ) → Outside s (among ws) v → outsiders s (among (ws ++ v ∷ [])) + 1 ≤ outsiders s (among ws)
-fewer s ws v out =
-    let sums = below-plus (outsideOf (among (ws ++ v ∷ [])) (λ w. 1)) (λ w. cond (eqb v w) 1 0) (s .points) in
-    let most = below-mono _ (outsideOf (among ws) (λ w. 1)) (s .points) each in
-    omega (arith, below-one v (λ w. 1) (s .points) (out .0))
-  where
-    small : (b c : Bool) → (c ≡ true → b ≡ false) → cond (not (b || c)) 1 0 + cond c 1 0 ≤ cond (not b) 1 0
-    small true true e = absurd (both-ways true (e refl) refl)
-    small true false e = omega arith
-    small false true e = omega arith
-    small false false e = omega arith
-
-    each : (w : ℕ) → w < s .points → outsideOf (among (ws ++ v ∷ [])) (λ w. 1) w + cond (eqb v w) 1 0 ≤ outsideOf (among ws) (λ w. 1) w
-    each w l = rw (among-push ws v w) (small (among ws w) (eqb v w) (λ e. rw (← eqb-true v w e) (out .1)))
 
 -- the order goes on by one inner point
 record Further (s : Scheme) (ws ks : List ℕ) : Type 0 where

@@ -1,16 +1,18 @@
 -- What a push does at one point: first along one reach, then along all.
 use mathlib.Core.Path.{_≡_, refl, sym, _∙_, ap}
-use mathlib.Core.List.{List, [], _∷_}
+use mathlib.Core.List.{List, [], _∷_, _++_}
 use mathlib.Core.Bool.{Bool, true, false, cond, _&&_}
 use mathlib.Core.Logic.{_≢_}
 use Prim.Native.Nat.{ℕ, _+_, _-_, _≤_, _<_, min}
 use native.Mathlib.Omega.{arith}
 use lib.Dec.{eqb}
+use lib.ListN.{length, take, getD}
 use Rattle.std.specs.shelf.Lists.{sumBy, All, Each}
+use Rattle.std.proofs.shelf.Lists.{take-more}
 use Rattle.std.proofs.shelf.Sums.{sumBy-cons}
 use Rattle.std.proofs.shelf.Tests.{cond-both, and-parts, both-ways, eqb-true, eq-eqb, ne-eqb}
 use Rattle.scheme.specs.declared.rows.Reach.{Reach}
-use Rattle.scheme.specs.Scheme.{Scheme, flowing}
+use Rattle.scheme.specs.Scheme.{flowing}
 use Rattle.scheme.specs.Flow.{Points, leftOn, leftBack}
 use Rattle.flows.specs.Ordering.{leftTo}
 use Rattle.flows.specs.Push.{Needs, moved, pushed, pushedAll}
@@ -163,3 +165,14 @@ steps x n v (r ∷ rs) needs out =
       others = λ w far ne. rest .others w far ne ∙ here .others w far ne;
       total = λ vn ends. rest .total vn (ends .1) ∙ here .total vn (ends .0 .0) (ends .0 .1);
     }
+
+-- ---- reach by reach, as a loop goes through them
+
+pub pushed-append : (x : Points) (v : ℕ) (rs ts : List Reach) (needs : Needs) → let front = pushedAll x v rs needs in let back = pushedAll x v ts (front .1) in pushedAll x v (rs ++ ts) needs ≡ (front .0 ++ back .0, back .1)
+pushed-append x v [] ts needs = refl
+pushed-append x v (r ∷ rs) ts needs =
+    let one = pushed x v r needs in
+    ap (λ (p : List Reach × Needs). (one .0 ∷ p .0, p .1)) (pushed-append x v rs ts (one .1))
+
+pub pushed-more : (x : Points) (v : ℕ) (rs : List Reach) (needs : Needs) (i : ℕ) (d : Reach) → i < length rs → let front = pushedAll x v (take i rs) needs in let one = pushed x v (getD rs i d) (front .1) in pushedAll x v (take (i + 1) rs) needs ≡ (front .0 ++ one .0 ∷ [], one .1)
+pushed-more x v rs needs i d l = rw (take-more rs i d l) (pushed-append x v (take i rs) (getD rs i d ∷ []) needs)

@@ -113,24 +113,6 @@ exchange h n (x ∷ xs) =
 -- ---- over two lists side by side
 
 module _ {X : Type 0} (R : X → X → Type 0) where
-  pub each-sum-le : (a b c d : X → ℕ) → ((x y : X) → R x y → a x + b y ≤ c x + d y) → (xs ys : List X) → Each R xs ys → sumBy a xs + sumBy b ys ≤ sumBy c xs + sumBy d ys
-  each-sum-le a b c d h [] [] e = omega arith
-  each-sum-le a b c d h [] (y ∷ ys) e = absurd e
-  each-sum-le a b c d h (x ∷ xs) [] e = absurd e
-  each-sum-le a b c d h (x ∷ xs) (y ∷ ys) e =
-      let ih = each-sum-le a b c d h xs ys (e .1) in
-      let here = h x y (e .0) in
-      omega (arith, sumBy-cons a x xs, sumBy-cons b y ys, sumBy-cons c x xs, sumBy-cons d y ys)
-
-  pub each-sum : (a b c d : X → ℕ) → ((x y : X) → R x y → a x + b y ≡ c x + d y) → (xs ys : List X) → Each R xs ys → sumBy a xs + sumBy b ys ≡ sumBy c xs + sumBy d ys
-  each-sum a b c d h [] [] e = refl
-  each-sum a b c d h [] (y ∷ ys) e = absurd e
-  each-sum a b c d h (x ∷ xs) [] e = absurd e
-  each-sum a b c d h (x ∷ xs) (y ∷ ys) e =
-      let ih = each-sum a b c d h xs ys (e .1) in
-      let here = h x y (e .0) in
-      omega (arith, sumBy-cons a x xs, sumBy-cons b y ys, sumBy-cons c x xs, sumBy-cons d y ys)
-
   pub each-same : (f g : X → ℕ) → ((x y : X) → R x y → f x ≡ g y) → (xs ys : List X) → Each R xs ys → sumBy f xs ≡ sumBy g ys
   each-same f g h [] [] e = refl
   each-same f g h [] (y ∷ ys) e = absurd e
@@ -152,12 +134,6 @@ module _ {X : Type 0} (R : X → X → Type 0) where
   each-all P Q h [] (y ∷ ys) e all = absurd e
   each-all P Q h (x ∷ xs) [] e all = absurd e
   each-all P Q h (x ∷ xs) (y ∷ ys) e all = (h x y (e .0) (all .0), each-all P Q h xs ys (e .1) (all .1))
-
-  pub each-with : (P Q : X → Type 0) → (xs ys : List X) → Each R xs ys → All P xs → All Q ys → Each (λ x y. R x y × P x × Q y) xs ys
-  each-with P Q [] [] e p q = tt
-  each-with P Q [] (y ∷ ys) e p q = absurd e
-  each-with P Q (x ∷ xs) [] e p q = absurd e
-  each-with P Q (x ∷ xs) (y ∷ ys) e p q = ((e .0, p .0, q .0), each-with P Q xs ys (e .1) (p .1) (q .1))
 
   pub each-self : ((x : X) → R x x) → (xs : List X) → Each R xs xs
   each-self h [] = tt

@@ -8,18 +8,17 @@ use mathlib.Core.Logic.{⊎-elim, _≢_}
 use Prim.Native.Nat.{ℕ, _+_, _-_, _≤_, _<_}
 use native.Mathlib.Omega.{arith}
 use lib.Dec.{eqb}
-use lib.ListN.{length, take}
-use lib.IntN.{pos, _+ℤ_}
+use lib.ListN.{take}
 use Rattle.std.specs.shelf.Lists.{sumBy, All, Each}
 use Rattle.std.proofs.shelf.Elements.{all-take, length-each}
 use Rattle.std.proofs.shelf.Lists.{length-map}
 use Rattle.std.proofs.shelf.Signed.{ints}
 use Rattle.std.proofs.shelf.Tests.{and-parts, cases-eq, or-left, or-right, or-from, both-ways, eqb-true, eq-eqb, ne-eqb}
 use Rattle.scheme.specs.declared.rows.Reach.{Reach}
-use Rattle.scheme.specs.Scheme.{Scheme, over, withFlows}
-use Rattle.scheme.specs.Flow.{Points, Lawful, inflow, outflow, value, leftOn, leftBack}
+use Rattle.scheme.specs.Scheme.{Scheme, over}
+use Rattle.scheme.specs.Flow.{Points, Lawful, inflow, outflow}
 use Rattle.scheme.specs.Questions.{WellFormed, Joined}
-use Rattle.flows.specs.Ordering.{among, leftTo, leftInto, Made}
+use Rattle.flows.specs.Ordering.{among, leftTo, leftInto}
 use Rattle.flows.specs.Push.{Needs, Stage, firstNeeds, pushedAll, pushBack, push, needsAfter}
 use Rattle.flows.specs.Push.Stage.{begins, goes-on}
 use Rattle.flows.specs.PushLaws.{Pushed, PushRaisesTheValueByTheGain, NeedsStayWithinTheGain}
@@ -28,7 +27,7 @@ use Rattle.flows.proofs.Signs.{sub-is}
 use Rattle.flows.proofs.Relaid.{Alike, flowList, relaid-alike}
 use Rattle.flows.proofs.Backwards.{Ready, made-ready, made-outlet}
 use Rattle.flows.proofs.Backwards.Ready.{start, more}
-use Rattle.flows.proofs.Steps.{Touched, Steps, steps, sends, brings}
+use Rattle.flows.proofs.Steps.{Touched, steps, sends, brings}
 
 pub record Standing (s : Scheme) (gain : ℕ) (todo : List ℕ) (rs : List Reach) (needs : Needs) : Type 0 where
   pub kept : Each (Touched (among todo)) (s .reaches) rs

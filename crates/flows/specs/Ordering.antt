@@ -1,7 +1,7 @@
 -- The ordering of one round (in the field: a maximum adjacency ordering).
 use mathlib.Core.Path.{_≡_}
 use mathlib.Core.List.{List, [], _∷_, _++_}
-use mathlib.Core.Bool.{Bool, true, false, cond, _&&_, _||_}
+use mathlib.Core.Bool.{false, cond, _&&_, _||_}
 use Prim.Native.Nat.{ℕ, _+_, _^_, _≤_, _<_, min}
 use lib.Dec.{eqb}
 use Rattle.std.specs.shelf.Lists.{folded, sumBy}
@@ -30,6 +30,14 @@ grown key left = key + left
 -- the key of the point v from the taken points x: it starts at 0 and grows along every reach
 abbrev pub key : Scheme → Points → ℕ → ℕ
 key s x v = folded (λ k r. grown k (leftTo x v r)) 0 (s .reaches)
+
+-- a set with one point more
+abbrev pub withPoint : Points → ℕ → Points
+withPoint x u v = x v || eqb u v
+
+-- the key of v, grown by what is left along some reaches from the one point u
+abbrev pub grownFrom : ℕ → ℕ → List Reach → ℕ → ℕ
+grownFrom u v rs k = folded (λ k r. grown k (leftTo (eqb u) v r)) k rs
 
 -- The key that the inlet is given at the start, so that it is taken first. No other key passes it.
 abbrev pub startKey : ℕ

@@ -30,6 +30,17 @@ pub record OneGap (s : Scheme) : Type 0 where
 abbrev pub EverySchemeHasOneGap : Type 0
 EverySchemeHasOneGap = (s : Scheme) → WellFormed s → Lawful s → OneGap s
 
+-- A round, whether it gains or not, leaves a lawful flow under the same limits, with a value higher by the gain.
+pub record RoundLeaves (s t : Scheme) (gain : ℕ) : Type 0 where
+  pub limits : SameLimits s t
+  pub lawful : Lawful t
+  pub raised : value t ≡ value s +ℤ pos gain
+
+abbrev pub RoundRaisesTheValueByTheGain : Type 0
+RoundRaisesTheValueByTheGain =
+    (s t : Scheme) (order keys : List ℕ) (gain : ℕ) → WellFormed s → Lawful s → Round s order keys gain t
+    → RoundLeaves s t gain
+
 -- A round gains 0 exactly if the gap is 0.
 pub record GainsWithTheGap (s : Scheme) (gain : ℕ) : Type 0 where
   pub closed : gain ≡ 0 → Gap s 0

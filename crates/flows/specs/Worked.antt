@@ -1,6 +1,6 @@
 -- The worked schemes: what rounds do to them, by computation.
 use mathlib.Core.Path.{_≡_}
-use mathlib.Core.List.{List, [], _∷_}
+use mathlib.Core.List.{[], _∷_}
 use Prim.Native.Nat.{ℕ}
 use lib.IntN.{pos, negsuc}
 use Rattle.scheme.specs.declared.rows.Reach.{Reach}
@@ -53,9 +53,10 @@ diamond =
       reaches = reach 0 1 1 0 ∷ reach 0 2 1 0 ∷ reach 1 3 1 0 ∷ reach 2 3 1 0 ∷ [];
     }
 
-pub record WorkedSchemes : Type 0 where
-  pub round-one : Round example (0 ∷ 1 ∷ 2 ∷ 3 ∷ []) (5 ∷ 7 ∷ 8 ∷ []) 5 afterOne
-  pub round-two : Round afterOne (0 ∷ 1 ∷ 2 ∷ 3 ∷ []) (3 ∷ 4 ∷ 3 ∷ []) 3 afterTwo
+-- what comes of them, where the example's two rounds gain the two numbers
+pub record WorkedSchemes (first second : ℕ) : Type 0 where
+  pub round-one : Round example (0 ∷ 1 ∷ 2 ∷ 3 ∷ []) (5 ∷ 7 ∷ 8 ∷ []) first afterOne
+  pub round-two : Round afterOne (0 ∷ 1 ∷ 2 ∷ 3 ∷ []) (3 ∷ 4 ∷ 3 ∷ []) second afterTwo
   pub then-none : Made afterTwo (0 ∷ 1 ∷ 2 ∷ []) (1 ∷ 1 ∷ []) 0
   pub settled : Settled example 2 afterTwo
   pub value-two : value afterTwo ≡ pos 8

@@ -1,6 +1,7 @@
 // What an ordering says of keys, sides and the gap.
 ghost use Prim.Native.Nat.{_^_};
-ghost use Rattle.flows.specs.OrderingLaws.{KeysStayWithin, NoGainFindsTheLeastSide};
+ghost use Rattle.flows.specs.OrderingLaws.{KeysGrowPointByPoint, KeysStayWithin};
+ghost use Rattle.flows.specs.OrderingLaws.{OrdersFitTheScheme, NoGainFindsTheLeastSide};
 ghost use Rattle.flows.specs.RoundLaws.{EverySchemeHasAnOrdering};
 
 // Every lawful scheme has an ordering.
@@ -10,7 +11,21 @@ pub fn every_scheme_has_an_ordering() -> bool
     true
 }
 
-// No key passes the inlet's start key.
+// An order starts with the inlet and holds points of the scheme, each once.
+pub fn orders_fit_the_scheme() -> bool
+    ensures { λ _. ⌜ OrdersFitTheScheme ⌝ }
+{
+    true
+}
+
+// A point that is taken raises the keys by what is left from it.
+pub fn keys_grow_point_by_point() -> bool
+    ensures { λ _. ⌜ KeysGrowPointByPoint ⌝ }
+{
+    true
+}
+
+// No key passes the inlet's start key, nor does the gain.
 pub fn keys_stay_within_the_start_key() -> bool
     ensures { λ _. ⌜ KeysStayWithin (2 ^ 40) ⌝ }
 {

@@ -1,11 +1,19 @@
 // What rounds do to the gap, and where they end.
 ghost use Prim.Native.Nat.{_-_};
-ghost use Rattle.flows.specs.RoundLaws.{EverySchemeHasOneGap, RoundGainsWhileThereIsAGap, RoundsCloseTheGap};
+ghost use Rattle.flows.specs.RoundLaws.{EverySchemeHasOneGap, RoundRaisesTheValueByTheGain};
+ghost use Rattle.flows.specs.RoundLaws.{RoundGainsWhileThereIsAGap, RoundsCloseTheGap};
 ghost use Rattle.flows.specs.RoundLaws.{ChainsAreBounded, EverySchemeSettles, SettledIsGreatest};
 
 // Every lawful scheme has exactly one gap.
 pub fn every_scheme_has_one_gap() -> bool
     ensures { λ _. ⌜ EverySchemeHasOneGap ⌝ }
+{
+    true
+}
+
+// A round leaves a lawful flow under the same limits, with a value higher by the gain.
+pub fn round_raises_the_value_by_the_gain() -> bool
+    ensures { λ _. ⌜ RoundRaisesTheValueByTheGain ⌝ }
 {
     true
 }

@@ -1,6 +1,6 @@
 // What sides say of flows.
 ghost use Rattle.flows.specs.SideLaws.{ValueCrossesEachSide, NoValueExceedsASide};
-ghost use Rattle.flows.specs.SideLaws.{FlowAndSideThatMeetAreBest, NoFlowGainsMoreThanIsLeft};
+ghost use Rattle.flows.specs.SideLaws.{FlowAndSideThatMeetAreBest, AcceptedReviewMeansGreatest, NoFlowGainsMoreThanIsLeft};
 
 // The value of a lawful flow is what leaves any side less what enters it.
 pub fn value_crosses_each_side() -> bool
@@ -19,6 +19,13 @@ pub fn no_value_exceeds_a_side() -> bool
 // Where a value is a side's capacity, the flow is greatest and the capacity least.
 pub fn flow_and_side_that_meet_are_best() -> bool
     ensures { λ _. ⌜ FlowAndSideThatMeetAreBest ⌝ }
+{
+    true
+}
+
+// So it is where a review of a published side accepts.
+pub fn accepted_review_means_greatest() -> bool
+    ensures { λ _. ⌜ AcceptedReviewMeansGreatest ⌝ }
 {
     true
 }

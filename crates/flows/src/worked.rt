@@ -1,8 +1,9 @@
 // The worked schemes.
 ghost use Rattle.flows.specs.Worked.{WorkedSchemes};
 
+// What rounds do to them; the two rounds of the example gain 5 and 3.
 pub fn worked_schemes_come_out() -> bool
-    ensures { λ _. ⌜ WorkedSchemes ⌝ }
+    ensures { λ _. ⌜ WorkedSchemes 5 3 ⌝ }
 {
     true
 }
