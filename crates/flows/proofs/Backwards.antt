@@ -16,7 +16,9 @@ use Rattle.flows.proofs.Orders.{among-push, among-last, least-push}
 -- enough is left from the earlier points to each point after the inlet
 pub data Ready (s : Scheme) (gain : ℕ) : List ℕ → Type 0 where
   start : Ready s gain (s .inlet ∷ [])
-  more : {v : ℕ} {ws : List ℕ} → v < s .points → among ws v ≡ false → gain ≤ leftInto s (among ws) v → Ready s gain ws → Ready s gain (v ∷ ws)
+  more :
+      {v : ℕ} {ws : List ℕ} → v < s .points → among ws v ≡ false → gain ≤ leftInto s (among ws) v → Ready s gain ws
+      → Ready s gain (v ∷ ws)
 
 or-turned : (a b : Bool) → (a || b) ≡ (b || a)
 or-turned true true = refl
@@ -31,7 +33,9 @@ among-reverse (w ∷ ws) u =
     ∙ ap (λ b. b || eqb w u) (among-reverse ws u) ∙ or-turned (among ws u) (eqb w u)
 
 module _ (s : Scheme) (gain : ℕ) where
-  ready-next : (ws : List ℕ) (v k : ℕ) → Next s (among ws) v k → gain ≤ k → Ready s gain (reverse ws) → Ready s gain (reverse (ws ++ v ∷ []))
+  ready-next :
+      (ws : List ℕ) (v k : ℕ) → Next s (among ws) v k → gain ≤ k → Ready s gain (reverse ws)
+      → Ready s gain (reverse (ws ++ v ∷ []))
   ready-next ws v k n enough before =
       let same : among (reverse ws) ≡ among ws = fun-ext (among-reverse ws) in
       let most = key-at-most-left s (among ws) v in
@@ -44,13 +48,16 @@ module _ (s : Scheme) (gain : ℕ) where
       let most = least-at-most ks (min j k) in
       ready-next ws v j n (omega arith) (taken-ready (min j k) taken (omega arith))
 
-  pub made-ready : {order keys : List ℕ} (g : ℕ) → g ≡ gain → 0 < gain → Made s order keys g → Ready s gain (reverse order)
+  pub made-ready :
+      {order keys : List ℕ} (g : ℕ) → g ≡ gain → 0 < gain → Made s order keys g → Ready s gain (reverse order)
   made-ready g e some (arrives {ws = ws} {ks = ks} {k = k} taken n above) =
       let most = least-at-most ks k in
       ready-next ws (s .outlet) k n (omega arith) (taken-ready k taken (omega arith))
   made-ready g e some (stops taken n) = absurd (omega arith)
 
-  pub made-outlet : {order keys : List ℕ} (g : ℕ) → g ≡ gain → 0 < gain → Made s order keys g → among (reverse order) (s .outlet) ≡ true
+  pub made-outlet :
+      {order keys : List ℕ} (g : ℕ) → g ≡ gain → 0 < gain → Made s order keys g
+      → among (reverse order) (s .outlet) ≡ true
   made-outlet g e some (arrives {ws = ws} taken n above) =
       among-reverse (ws ++ s .outlet ∷ []) (s .outlet) ∙ among-last ws (s .outlet)
   made-outlet g e some (stops taken n) = absurd (omega arith)

@@ -30,7 +30,9 @@ wide true false p = refl
 wide false b p = refl
 
 -- one reach leads to its head, and back to its tail
-across-by-points : (x : Points) (n : ℕ) (r : Reach) → r .tail < n → r .head < n → sumBelow n (outsideOf x (λ w. leftTo x w r)) ≡ leftAcross x r
+across-by-points :
+    (x : Points) (n : ℕ) (r : Reach) → r .tail < n → r .head < n
+    → sumBelow n (outsideOf x (λ w. leftTo x w r)) ≡ leftAcross x r
 across-by-points x n r t h =
     below-same (outsideOf x (λ w. leftTo x w r)) (λ w. on w + back w) n (λ w l. parted (x w) (eqb (r .head) w) (x (r .tail)) (eqb (r .tail) w) (x (r .head)) (leftOn r) (leftBack r))
     ∙ below-plus on back n
@@ -46,11 +48,14 @@ across-by-points x n r t h =
     leftOver : ℕ
     leftOver = cond (leaves x r) (leftOn r) 0
 
-    parted : (o a b c d : Bool) (p q : ℕ) → cond (not o) (cond (a && b) p 0 + cond (c && d) q 0) 0 ≡ cond a (cond (b && not o) p 0) 0 + cond c (cond (d && not o) q 0) 0
+    parted :
+        (o a b c d : Bool) (p q : ℕ)
+        → cond (not o) (cond (a && b) p 0 + cond (c && d) q 0) 0 ≡ cond a (cond (b && not o) p 0) 0 + cond c (cond (d && not o) q 0) 0
     parted true a b c d p q = omega (arith, shut a b p, shut c d q)
     parted false a b c d p q = omega (arith, wide a b p, wide c d q)
 
-pub left-by-points : (s : Scheme) (x : Points) → WellFormed s → sumBelow (s .points) (outsideOf x (leftInto s x)) ≡ leftOut s x
+pub left-by-points :
+    (s : Scheme) (x : Points) → WellFormed s → sumBelow (s .points) (outsideOf x (leftInto s x)) ≡ leftOut s x
 left-by-points s x formed =
     below-same (outsideOf x (leftInto s x)) (λ w. sumBy (λ r. outsideOf x (λ v. leftTo x v r) w) (s .reaches)) (s .points) (λ w l. sumBy-when (not (x w)) (leftTo x w) (s .reaches))
     ∙ exchange (λ w r. outsideOf x (λ v. leftTo x v r) w) (s .points) (s .reaches)
@@ -62,7 +67,9 @@ lets-through true d a h = rw (h refl) (omega arith)
 lets-through false d a h = omega arith
 
 -- what is left from part of a set to a point outside the set is left out of the set
-pub left-within : (s : Scheme) (x y : Points) (v : ℕ) → ((u : ℕ) → x u ≡ true → y u ≡ true) → y v ≡ false → leftInto s x v ≤ leftOut s y
+pub left-within :
+    (s : Scheme) (x y : Points) (v : ℕ) → ((u : ℕ) → x u ≡ true → y u ≡ true) → y v ≡ false
+    → leftInto s x v ≤ leftOut s y
 left-within s x y v part out = sumBy-mono (leftTo x v) (leftAcross y) (s .reaches) (all-of _ one (s .reaches))
   where
     crosses : (end other : ℕ) → (eqb end v && x other) ≡ true → (y other && not (y end)) ≡ true

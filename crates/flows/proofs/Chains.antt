@@ -1,5 +1,5 @@
 -- Chains of rounds.
-use mathlib.Core.Path.{_≡_, refl, sym, _∙_, ap, subst}
+use mathlib.Core.Path.{_≡_, refl, sym, subst}
 use mathlib.Core.List.{List, [], _∷_}
 use mathlib.Core.Bool.{false}
 use mathlib.Core.Logic.{_⊎_, inl, inr, ⊎-elim}
@@ -50,7 +50,9 @@ come-along {s} formed lawful (more {t = t} {u = u} {order = order} {keys = keys}
     }
 
 -- what is left out of a side bounds what a flow under the same limits has gained
-gained-within-side : (s t : Scheme) (x : Points) (gained : ℕ) → WellFormed s → Lawful s → Side s x → SameLimits s t → Lawful t → value t ≡ value s +ℤ pos gained → leftOut t x + gained ≡ leftOut s x
+gained-within-side :
+    (s t : Scheme) (x : Points) (gained : ℕ) → WellFormed s → Lawful s → Side s x → SameLimits s t → Lawful t
+    → value t ≡ value s +ℤ pos gained → leftOut t x + gained ≡ leftOut s x
 gained-within-side s t x gained formed lawful side limits lawful′ raised =
     let here = left-completes s x formed lawful side in
     let there = left-completes t x (limits-formed s t limits formed) lawful′ (limits-side s t limits x side) in

@@ -24,7 +24,9 @@ use Rattle.flows.proofs.Signs.{same-differences, difference-at-most, sub-is}
 use Rattle.flows.proofs.Relaid.{alike-self, alike-relaid, relaid-alike, formed-alike, side-alike, capacity-alike, flowList}
 
 -- what a set of points passes through one end of each reach, summed by points and by reaches
-by-ends : (x : Points) (end : Reach → ℕ) (n : ℕ) (rs : List Reach) → All (λ r. end r < n) rs → sumBelow n (λ v. cond (x v) (sumBy (λ r. cond (eqb (end r) v) (r .flow) 0) rs) 0) ≡ sumBy (λ r. cond (x (end r)) (r .flow) 0) rs
+by-ends :
+    (x : Points) (end : Reach → ℕ) (n : ℕ) (rs : List Reach) → All (λ r. end r < n) rs
+    → sumBelow n (λ v. cond (x v) (sumBy (λ r. cond (eqb (end r) v) (r .flow) 0) rs) 0) ≡ sumBy (λ r. cond (x (end r)) (r .flow) 0) rs
 by-ends x end n rs inside =
     below-same _ (λ v. sumBy (λ r. cond (x v) (cond (eqb (end r) v) (r .flow) 0) 0) rs) n (λ v l. sumBy-when (x v) (λ r. cond (eqb (end r) v) (r .flow) 0) rs)
     ∙ exchange (λ v r. cond (x v) (cond (eqb (end r) v) (r .flow) 0) 0) n rs
@@ -46,7 +48,9 @@ border false false f = refl
 
 module _ (s : Scheme) (x : Points) (formed : WellFormed s) (lawful : Lawful s) (side : Side s x) where
   -- of the points of a side only the inlet is out of balance
-  steady-point : (v : ℕ) → v < s .points → cond (x v) (outflow s v) 0 + cond (eqb (s .inlet) v) (inflow s v) 0 ≡ cond (x v) (inflow s v) 0 + cond (eqb (s .inlet) v) (outflow s v) 0
+  steady-point :
+      (v : ℕ) → v < s .points
+      → cond (x v) (outflow s v) 0 + cond (eqb (s .inlet) v) (inflow s v) 0 ≡ cond (x v) (inflow s v) 0 + cond (eqb (s .inlet) v) (outflow s v) 0
   steady-point v l =
       ⊎-elim
       (λ (e : s .inlet ≡ v). rw (eq-eqb (s .inlet) v e, ← e, side .holds) (omega arith))
@@ -97,7 +101,9 @@ left-and-out s x lawful =
     (all-weaker _ _ (λ r h. made-up (leaves x r) (enters x r) (r .flow) (r .limit) h) (s .reaches) (lawful .within))
 
 -- the value and what is left out of a side together are its capacity
-pub left-completes : (s : Scheme) (x : Points) → WellFormed s → Lawful s → Side s x → outflow s (s .inlet) + leftOut s x ≡ inflow s (s .inlet) + capacity s x
+pub left-completes :
+    (s : Scheme) (x : Points) → WellFormed s → Lawful s → Side s x
+    → outflow s (s .inlet) + leftOut s x ≡ inflow s (s .inlet) + capacity s x
 left-completes s x formed lawful side =
     let cross = crossing s x formed lawful side in let left = left-and-out s x lawful in omega arith
 
@@ -116,7 +122,10 @@ pub present-flow : (s : Scheme) → withFlows s (flowList (s .reaches)) ≡ s
 present-flow s = rw (relaid-alike (s .reaches) (s .reaches) (alike-self (s .reaches)))
 
 -- a lawful flow that none exceeds is greatest
-pub present-greatest : (s : Scheme) → Lawful s → ((fs : List ℕ) → length fs ≡ length (s .reaches) → Lawful (withFlows s fs) → value (withFlows s fs) ≤ℤ value s) → Greatest s (value s)
+pub present-greatest :
+    (s : Scheme) → Lawful s
+    → ((fs : List ℕ) → length fs ≡ length (s .reaches) → Lawful (withFlows s fs) → value (withFlows s fs) ≤ℤ value s)
+    → Greatest s (value s)
 present-greatest s lawful most =
     record {
       flows = flowList (s .reaches);

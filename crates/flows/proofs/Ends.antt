@@ -47,7 +47,9 @@ module _ (s : Scheme) (x : Points) (formed : WellFormed s) (lawful : Lawful s) (
       omega (arith, ints, sub-is (outflow s (s .inlet)) (inflow s (s .inlet)), meets)
 
 -- a set with the inlet, of which nothing is left out, holds every point that is taken
-taken-inside : (s : Scheme) (y : Points) {ws ks : List ℕ} → y (s .inlet) ≡ true → leftOut s y ≡ 0 → Taken s ws ks → (u : ℕ) → among ws u ≡ true → y u ≡ true
+taken-inside :
+    (s : Scheme) (y : Points) {ws ks : List ℕ} → y (s .inlet) ≡ true → leftOut s y ≡ 0 → Taken s ws ks → (u : ℕ)
+    → among ws u ≡ true → y u ≡ true
 taken-inside s y holds none first u h = among-push-cases (λ w. y w ≡ true) [] (s .inlet) u h (λ e. absurd (both-ways false refl e)) holds
 taken-inside s y holds none (next {ws = ws} {v = v} {k = k} taken n above inner) u h =
     let before = taken-inside s y holds none taken in
@@ -56,7 +58,9 @@ taken-inside s y holds none (next {ws = ws} {v = v} {k = k} taken n above inner)
     (λ (no : y v ≡ false). absurd (let left = left-within s (among ws) y v before no in let most = key-at-most-left s (among ws) v in omega (arith, n .is)))
     (cases-bool (y v)))
 
-no-gain : (s : Scheme) {order keys : List ℕ} (gain : ℕ) → gain ≡ 0 → WellFormed s → Lawful s → Made s order keys gain → LeastSide s order
+no-gain :
+    (s : Scheme) {order keys : List ℕ} (gain : ℕ) → gain ≡ 0 → WellFormed s → Lawful s → Made s order keys gain
+    → LeastSide s order
 no-gain s gain e formed lawful (arrives {ks = ks} {k = k} taken n above) = absurd (let some = least-above s k taken above in omega arith)
 no-gain s gain e formed lawful (stops {ws = ws} {v = v} taken n) =
     record {

@@ -41,10 +41,14 @@ next-by-test s x v k test =
     }
 
 -- one point more, and the two ways to end
-taken : (s : Scheme) (ws ks : List ℕ) (v k : ℕ) → Taken s ws ks → mayCome s (among ws) v k ≡ true → ltb 0 k ≡ true → eqb v (s .outlet) ≡ false → Taken s (ws ++ v ∷ []) (ks ++ k ∷ [])
+taken :
+    (s : Scheme) (ws ks : List ℕ) (v k : ℕ) → Taken s ws ks → mayCome s (among ws) v k ≡ true → ltb 0 k ≡ true
+    → eqb v (s .outlet) ≡ false → Taken s (ws ++ v ∷ []) (ks ++ k ∷ [])
 taken s ws ks v k before test above inner = next before (next-by-test s (among ws) v k test) (ltb-true 0 k above) inner
 
-arrived : (s : Scheme) (ws ks : List ℕ) (k : ℕ) → Taken s ws ks → mayCome s (among ws) (s .outlet) k ≡ true → ltb 0 k ≡ true → Made s (ws ++ s .outlet ∷ []) (ks ++ k ∷ []) (least ks k)
+arrived :
+    (s : Scheme) (ws ks : List ℕ) (k : ℕ) → Taken s ws ks → mayCome s (among ws) (s .outlet) k ≡ true → ltb 0 k ≡ true
+    → Made s (ws ++ s .outlet ∷ []) (ks ++ k ∷ []) (least ks k)
 arrived s ws ks k before test above = arrives before (next-by-test s (among ws) (s .outlet) k test) (ltb-true 0 k above)
 
 stopped : (s : Scheme) (ws ks : List ℕ) (v : ℕ) → Taken s ws ks → mayCome s (among ws) v 0 ≡ true → Made s ws ks 0

@@ -24,7 +24,9 @@ use Rattle.flows.proofs.Orders.{among-push, among-push-cases}
 abbrev pub outsiders : Scheme → Points → ℕ
 outsiders s x = sumBelow (s .points) (outsideOf x (λ w. 1))
 
-pub fewer : (s : Scheme) (ws : List ℕ) (v : ℕ) → Outside s (among ws) v → outsiders s (among (ws ++ v ∷ [])) + 1 ≤ outsiders s (among ws)
+pub fewer :
+    (s : Scheme) (ws : List ℕ) (v : ℕ) → Outside s (among ws) v
+    → outsiders s (among (ws ++ v ∷ [])) + 1 ≤ outsiders s (among ws)
 fewer s ws v out =
     let sums = below-plus (outsideOf (among (ws ++ v ∷ [])) (λ w. 1)) (λ w. cond (eqb v w) 1 0) (s .points) in
     let most = below-mono _ (outsideOf (among ws) (λ w. 1)) (s .points) each in
@@ -36,7 +38,9 @@ fewer s ws v out =
     small false true e = omega arith
     small false false e = omega arith
 
-    each : (w : ℕ) → w < s .points → outsideOf (among (ws ++ v ∷ [])) (λ w. 1) w + cond (eqb v w) 1 0 ≤ outsideOf (among ws) (λ w. 1) w
+    each :
+        (w : ℕ) → w < s .points
+        → outsideOf (among (ws ++ v ∷ [])) (λ w. 1) w + cond (eqb v w) 1 0 ≤ outsideOf (among ws) (λ w. 1) w
     each w l = rw (among-push ws v w) (small (among ws w) (eqb v w) (λ e. rw (← eqb-true v w e) (out .1)))
 
 -- an element of a list is among it
@@ -65,7 +69,9 @@ fitting-first s formed =
       room = omega (arith, fewer s [] (s .inlet) (formed .inlet-point, refl), below-const 1 (s .points));
     }
 
-fitting-next : (s : Scheme) (ws ks : List ℕ) (v k : ℕ) → Outside s (among ws) v → Fitting s ws ks → Fitting s (ws ++ v ∷ []) (ks ++ k ∷ [])
+fitting-next :
+    (s : Scheme) (ws ks : List ℕ) (v k : ℕ) → Outside s (among ws) v → Fitting s ws ks
+    → Fitting s (ws ++ v ∷ []) (ks ++ k ∷ [])
 fitting-next s ws ks v k out fits =
     record {
       later = fits .later ++ v ∷ [];
@@ -91,7 +97,8 @@ taken-fits s formed first = fitting-first s formed
 taken-fits s formed (next {ws = ws} {ks = ks} {v = v} {k = k} taken n above inner) =
     fitting-next s ws ks v k (n .outside) (taken-fits s formed taken)
 
-made-fitting : (s : Scheme) {order keys : List ℕ} {gain : ℕ} → WellFormed s → Made s order keys gain → Fitting s order keys
+made-fitting :
+    (s : Scheme) {order keys : List ℕ} {gain : ℕ} → WellFormed s → Made s order keys gain → Fitting s order keys
 made-fitting s formed (arrives {ws = ws} {ks = ks} {k = k} taken n above) =
     fitting-next s ws ks (s .outlet) k (n .outside) (taken-fits s formed taken)
 made-fitting s formed (stops taken n) = taken-fits s formed taken

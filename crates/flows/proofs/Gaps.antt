@@ -34,7 +34,9 @@ plus-none z = omega (arith, ints)
 
 -- ---- no gain, no gap
 
-gain-with-gap : (s : Scheme) (order keys : List ℕ) (gain : ℕ) → WellFormed s → Lawful s → Made s order keys gain → GainsWithTheGap s gain
+gain-with-gap :
+    (s : Scheme) (order keys : List ℕ) (gain : ℕ) → WellFormed s → Lawful s → Made s order keys gain
+    → GainsWithTheGap s gain
 gain-with-gap s order keys gain formed lawful made =
     record {
       closed = λ e. rw (plus-none (value s)) (no-gain-least-side s order keys formed lawful (rw e at made) .greatest);
@@ -105,7 +107,8 @@ abbrev pub gap-is : Scheme → ℕ → ℤ
 gap-is s gap = value s +ℤ pos gap
 
 -- the gap is at most what is left out of any side
-pub gap-within-side : (s : Scheme) (x : Points) (gap : ℕ) → WellFormed s → Lawful s → Side s x → Gap s gap → gap ≤ leftOut s x
+pub gap-within-side :
+    (s : Scheme) (x : Points) (gap : ℕ) → WellFormed s → Lawful s → Side s x → Gap s gap → gap ≤ leftOut s x
 gap-within-side s x gap formed lawful side great =
     let most = relaid-gain s x (great .flows) formed lawful side (great .covers) (great .lawful) in
     let reached = great .reached in

@@ -48,14 +48,17 @@ from-any s x v formed lawful =
 -- ---- one point more
 
 -- what is left from x and u together is left from either
-left-parts : (x : Points) (u v : ℕ) → x u ≡ false → (r : Reach) → leftTo (withPoint x u) v r ≡ leftTo x v r + leftTo (eqb u) v r
+left-parts :
+    (x : Points) (u v : ℕ) → x u ≡ false → (r : Reach) → leftTo (withPoint x u) v r ≡ leftTo x v r + leftTo (eqb u) v r
 left-parts x u v out r =
     omega (arith, part (eqb (r .head) v) (x (r .tail)) (eqb u (r .tail)) (leftOn r) (apart (r .tail)), part (eqb (r .tail) v) (x (r .head)) (eqb u (r .head)) (leftBack r) (apart (r .head)))
   where
     apart : (w : ℕ) → eqb u w ≡ true → x w ≡ false
     apart w e = rw (← eqb-true u w e) out
 
-    part : (a b c : Bool) (k : ℕ) → (c ≡ true → b ≡ false) → cond (a && (b || c)) k 0 ≡ cond (a && b) k 0 + cond (a && c) k 0
+    part :
+        (a b c : Bool) (k : ℕ) → (c ≡ true → b ≡ false)
+        → cond (a && (b || c)) k 0 ≡ cond (a && b) k 0 + cond (a && c) k 0
     part false b c k e = refl
     part true true true k e = absurd (both-ways true (e refl) refl)
     part true true false k e = omega arith
@@ -72,7 +75,9 @@ keys-grow s x u v out =
     sumBy-same (leftTo (withPoint x u) v) (λ r. leftTo x v r + leftTo (eqb u) v r) (s .reaches) (all-of _ (left-parts x u v out) (s .reaches))
     ∙ sumBy-plus (leftTo x v) (leftTo (eqb u) v) (s .reaches) ∙ sym (grown-from (leftTo (eqb u) v) (key s x v) (s .reaches))
 
-on-the-way : (s : Scheme) (x : Points) (u v count : ℕ) → WellFormed s → Lawful s → x u ≡ false → grownFrom u v (take count (s .reaches)) (key s x v) ≤ startKey
+on-the-way :
+    (s : Scheme) (x : Points) (u v count : ℕ) → WellFormed s → Lawful s → x u ≡ false
+    → grownFrom u v (take count (s .reaches)) (key s x v) ≤ startKey
 on-the-way s x u v count formed lawful out =
     let whole = grown-from (leftTo (eqb u) v) (key s x v) (s .reaches) in
     let part = grown-from (leftTo (eqb u) v) (key s x v) (take count (s .reaches)) in
@@ -84,7 +89,8 @@ pub least-at-most : (ks : List ℕ) (k : ℕ) → least ks k ≤ k
 least-at-most [] k = omega arith
 least-at-most (j ∷ ks) k = omega (arith, least-at-most ks k)
 
-gain-within : (s : Scheme) {order keys : List ℕ} (gain : ℕ) → WellFormed s → Lawful s → Made s order keys gain → gain ≤ startKey
+gain-within :
+    (s : Scheme) {order keys : List ℕ} (gain : ℕ) → WellFormed s → Lawful s → Made s order keys gain → gain ≤ startKey
 gain-within s gain formed lawful (arrives {ws = ws} {ks = ks} {k = k} taken n above) =
     omega (arith, least-at-most ks k, n .is, from-any s (among ws) (s .outlet) formed lawful)
 gain-within s gain formed lawful (stops taken n) = omega arith

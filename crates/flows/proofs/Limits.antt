@@ -24,7 +24,8 @@ same-limits-self s =
 covers-relaid : (s : Scheme) (fs : List ℕ) → length (withFlows s fs .reaches) ≡ length (s .reaches)
 covers-relaid s fs = sym (length-each Alike (s .reaches) (flowsOver (s .reaches) fs) (alike-relaid (s .reaches) fs))
 
-relaid-twice : (s : Scheme) (fs gs : List ℕ) → length gs ≡ length (s .reaches) → withFlows (withFlows s fs) gs ≡ withFlows s gs
+relaid-twice :
+    (s : Scheme) (fs gs : List ℕ) → length gs ≡ length (s .reaches) → withFlows (withFlows s fs) gs ≡ withFlows s gs
 relaid-twice s fs gs covers =
     ap (over s) (relaid-over-alike (s .reaches) (flowsOver (s .reaches) fs) gs (alike-relaid (s .reaches) fs) covers)
 

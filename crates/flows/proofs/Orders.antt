@@ -22,7 +22,8 @@ among-earlier ws v u h = among-push ws v u ∙ or-left (among ws u) (eqb v u) h
 pub among-last : (ws : List ℕ) (v : ℕ) → among (ws ++ v ∷ []) v ≡ true
 among-last ws v = among-push ws v v ∙ or-right (among ws v) (eqb v v) (eq-eqb v v refl)
 
-pub among-push-cases : (P : ℕ → Type 0) (ws : List ℕ) (v u : ℕ) → among (ws ++ v ∷ []) u ≡ true → (among ws u ≡ true → P u) → P v → P u
+pub among-push-cases :
+    (P : ℕ → Type 0) (ws : List ℕ) (v u : ℕ) → among (ws ++ v ∷ []) u ≡ true → (among ws u ≡ true → P u) → P v → P u
 among-push-cases P ws v u h before here =
     ⊎-elim before (λ e. rw (← eqb-true v u e) here) (or-cases (among ws u) (eqb v u) (sym (among-push ws v u) ∙ h))
 

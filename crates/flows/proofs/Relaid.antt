@@ -41,7 +41,8 @@ relaid-alike (r ∷ rs) [] e = absurd e
 relaid-alike (r ∷ rs) (t ∷ ts) e = ap₂ (λ y ys. y ∷ ys) (same-reach r t (e .0)) (relaid-alike rs ts (e .1))
 
 -- which of two such lists is laid over does not matter
-pub relaid-over-alike : (rs ts : List Reach) (fs : List ℕ) → Each Alike rs ts → length fs ≡ length rs → flowsOver ts fs ≡ flowsOver rs fs
+pub relaid-over-alike :
+    (rs ts : List Reach) (fs : List ℕ) → Each Alike rs ts → length fs ≡ length rs → flowsOver ts fs ≡ flowsOver rs fs
 relaid-over-alike [] [] fs e l = refl
 relaid-over-alike [] (t ∷ ts) fs e l = absurd e
 relaid-over-alike (r ∷ rs) [] fs e l = absurd e

@@ -105,7 +105,9 @@ go-on s ws ks formed taken =
         (cases-lt 0 k)
 
 -- with fuel for every point outside
-make : (s : Scheme) (fuel : ℕ) (ws ks : List ℕ) → WellFormed s → outsiders s (among ws) ≤ fuel → Taken s ws ks → HasOrdering s
+make :
+    (s : Scheme) (fuel : ℕ) (ws ks : List ℕ) → WellFormed s → outsiders s (among ws) ≤ fuel → Taken s ws ks
+    → HasOrdering s
 make s zero ws ks formed enough taken =
     let lacks = taken-lacks-outlet s (formed .apart) taken in
     let one : 1 ≤ outsiders s (among ws) = rw lacks at (below-term (outsideOf (among ws) (λ w. 1)) (s .points) (s .outlet) (formed .outlet-point)) in

@@ -81,7 +81,9 @@ module _ (x : Points) (n v : ℕ) (r : Reach) (needs : Needs) (out : x v ≡ fal
         total = λ vn tn hn. moved-total a v (r .tail) needs enough n vn tn;
       }
     where
-      kept : (t h : Bool) (f a n : ℕ) → (h ≡ true → a ≤ n) → cond t (f + a) 0 + cond h f 0 + n ≡ cond t f 0 + cond h (f + a) 0 + (n + cond t a 0 - cond h a 0)
+      kept :
+          (t h : Bool) (f a n : ℕ) → (h ≡ true → a ≤ n)
+          → cond t (f + a) 0 + cond h f 0 + n ≡ cond t f 0 + cond h (f + a) 0 + (n + cond t a 0 - cond h a 0)
       kept true true f a n e = omega (arith, e refl)
       kept false true f a n e = omega (arith, e refl)
       kept true false f a n e = omega arith
@@ -105,13 +107,16 @@ module _ (x : Points) (n v : ℕ) (r : Reach) (needs : Needs) (out : x v ≡ fal
         total = λ vn tn hn. moved-total a v (r .head) needs enough n vn hn;
       }
     where
-      kept : (t h : Bool) (f a n : ℕ) → a ≤ f → (t ≡ true → a ≤ n) → cond t (f - a) 0 + cond h f 0 + n ≡ cond t f 0 + cond h (f - a) 0 + (n + cond h a 0 - cond t a 0)
+      kept :
+          (t h : Bool) (f a n : ℕ) → a ≤ f → (t ≡ true → a ≤ n)
+          → cond t (f - a) 0 + cond h f 0 + n ≡ cond t f 0 + cond h (f - a) 0 + (n + cond h a 0 - cond t a 0)
       kept true true f a n s e = omega (arith, e refl)
       kept false true f a n s e = omega arith
       kept true false f a n s e = omega (arith, e refl)
       kept false false f a n s e = omega arith
 
-  step-none : (eqb (r .head) v && x (r .tail)) ≡ false → (eqb (r .tail) v && x (r .head)) ≡ false → Step x n v r r needs needs
+  step-none :
+      (eqb (r .head) v && x (r .tail)) ≡ false → (eqb (r .tail) v && x (r .head)) ≡ false → Step x n v r r needs needs
   step-none not-on not-back =
       record {
         touched = record { alike = record { tail = refl; head = refl; limit = refl }; flow = λ t h. refl };
@@ -136,12 +141,15 @@ module _ (x : Points) (n v : ℕ) (r : Reach) (needs : Needs) (out : x v ≡ fal
 pub record Steps (x : Points) (n v : ℕ) (rs ts : List Reach) (needs after : Needs) : Type 0 where
   pub touched : Each (Touched x) rs ts
   pub within : All (λ r. r .flow ≤ r .limit) rs → All (λ t. t .flow ≤ t .limit) ts
-  pub conserved : (w : ℕ) → sumBy (sends w) ts + sumBy (brings w) rs + needs w ≡ sumBy (sends w) rs + sumBy (brings w) ts + after w
+  pub conserved :
+      (w : ℕ) → sumBy (sends w) ts + sumBy (brings w) rs + needs w ≡ sumBy (sends w) rs + sumBy (brings w) ts + after w
   pub drained : after v ≡ needs v - sumBy (leftTo x v) rs
   pub others : (w : ℕ) → x w ≡ false → v ≢ w → after w ≡ needs w
   pub total : v < n → All (λ r. (r .tail < n) × (r .head < n)) rs → sumBelow n after ≡ sumBelow n needs
 
-pub steps : (x : Points) (n v : ℕ) (rs : List Reach) (needs : Needs) → x v ≡ false → Steps x n v rs (pushedAll x v rs needs .0) needs (pushedAll x v rs needs .1)
+pub steps :
+    (x : Points) (n v : ℕ) (rs : List Reach) (needs : Needs) → x v ≡ false
+    → Steps x n v rs (pushedAll x v rs needs .0) needs (pushedAll x v rs needs .1)
 steps x n v [] needs out =
     record {
       touched = tt;

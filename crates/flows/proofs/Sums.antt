@@ -42,7 +42,9 @@ module _ {X : Type 0} where
   sumBy-same f g (x ∷ xs) h = let ih = sumBy-same f g xs (h .1) in omega (arith, sumBy-cons f x xs, sumBy-cons g x xs)
 
   -- and so for two sums on either side
-  pub sumBy-balance : (a b c d : X → ℕ) (xs : List X) → All (λ x. a x + b x ≡ c x + d x) xs → sumBy a xs + sumBy b xs ≡ sumBy c xs + sumBy d xs
+  pub sumBy-balance :
+      (a b c d : X → ℕ) (xs : List X) → All (λ x. a x + b x ≡ c x + d x) xs
+      → sumBy a xs + sumBy b xs ≡ sumBy c xs + sumBy d xs
   sumBy-balance a b c d xs h =
       sym (sumBy-plus a b xs) ∙ sumBy-same (λ x. a x + b x) (λ x. c x + d x) xs h ∙ sumBy-plus c d xs
 
@@ -70,7 +72,9 @@ pub below-plus : (f g : ℕ → ℕ) (n : ℕ) → sumBelow n (λ v. f v + g v) 
 below-plus f g zero = refl
 below-plus f g (suc n) = let ih = below-plus f g n in omega arith
 
-pub below-balance : (a b c d : ℕ → ℕ) (n : ℕ) → ((v : ℕ) → v < n → a v + b v ≡ c v + d v) → sumBelow n a + sumBelow n b ≡ sumBelow n c + sumBelow n d
+pub below-balance :
+    (a b c d : ℕ → ℕ) (n : ℕ) → ((v : ℕ) → v < n → a v + b v ≡ c v + d v)
+    → sumBelow n a + sumBelow n b ≡ sumBelow n c + sumBelow n d
 below-balance a b c d n h =
     sym (below-plus a b n) ∙ below-same (λ v. a v + b v) (λ v. c v + d v) n h ∙ below-plus c d n
 
@@ -102,7 +106,9 @@ below-term f (suc n) v h =
 
 -- ---- both: the order of summing does not matter
 
-pub exchange : {X : Type 0} (h : ℕ → X → ℕ) (n : ℕ) (xs : List X) → sumBelow n (λ v. sumBy (h v) xs) ≡ sumBy (λ x. sumBelow n (λ v. h v x)) xs
+pub exchange :
+    {X : Type 0} (h : ℕ → X → ℕ) (n : ℕ) (xs : List X)
+    → sumBelow n (λ v. sumBy (h v) xs) ≡ sumBy (λ x. sumBelow n (λ v. h v x)) xs
 exchange h n [] = below-none n
 exchange h n (x ∷ xs) =
     below-same (λ v. sumBy (h v) (x ∷ xs)) (λ v. h v x + sumBy (h v) xs) n (λ v l. sumBy-cons (h v) x xs)
@@ -113,7 +119,8 @@ exchange h n (x ∷ xs) =
 -- ---- over two lists side by side
 
 module _ {X : Type 0} (R : X → X → Type 0) where
-  pub each-same : (f g : X → ℕ) → ((x y : X) → R x y → f x ≡ g y) → (xs ys : List X) → Each R xs ys → sumBy f xs ≡ sumBy g ys
+  pub each-same :
+      (f g : X → ℕ) → ((x y : X) → R x y → f x ≡ g y) → (xs ys : List X) → Each R xs ys → sumBy f xs ≡ sumBy g ys
   each-same f g h [] [] e = refl
   each-same f g h [] (y ∷ ys) e = absurd e
   each-same f g h (x ∷ xs) [] e = absurd e
@@ -129,7 +136,8 @@ module _ {X : Type 0} (R : X → X → Type 0) where
   each-weaker S h (x ∷ xs) (y ∷ ys) e = (h x y (e .0), each-weaker S h xs ys (e .1))
 
   -- what holds of the elements on one side, and of the pairs
-  pub each-all : (P Q : X → Type 0) → ((x y : X) → R x y → P x → Q y) → (xs ys : List X) → Each R xs ys → All P xs → All Q ys
+  pub each-all :
+      (P Q : X → Type 0) → ((x y : X) → R x y → P x → Q y) → (xs ys : List X) → Each R xs ys → All P xs → All Q ys
   each-all P Q h [] [] e all = tt
   each-all P Q h [] (y ∷ ys) e all = absurd e
   each-all P Q h (x ∷ xs) [] e all = absurd e
@@ -139,7 +147,9 @@ module _ {X : Type 0} (R : X → X → Type 0) where
   each-self h [] = tt
   each-self h (x ∷ xs) = (h x, each-self h xs)
 
-  pub each-then : (S Q : X → X → Type 0) → ((x y z : X) → R x y → S y z → Q x z) → (xs ys zs : List X) → Each R xs ys → Each S ys zs → Each Q xs zs
+  pub each-then :
+      (S Q : X → X → Type 0) → ((x y z : X) → R x y → S y z → Q x z) → (xs ys zs : List X) → Each R xs ys → Each S ys zs
+      → Each Q xs zs
   each-then S Q h [] [] [] a b = tt
   each-then S Q h [] [] (z ∷ zs) a b = absurd b
   each-then S Q h [] (y ∷ ys) zs a b = absurd a

@@ -32,7 +32,8 @@ use Rattle.flows.proofs.Steps.{Touched, steps, sends, brings}
 pub record Standing (s : Scheme) (gain : ℕ) (todo : List ℕ) (rs : List Reach) (needs : Needs) : Type 0 where
   pub kept : Each (Touched (among todo)) (s .reaches) rs
   pub within : All (λ r. r .flow ≤ r .limit) rs
-  pub conserved : (w : ℕ) → sumBy (sends w) rs + inflow s w + firstNeeds s gain w ≡ outflow s w + sumBy (brings w) rs + needs w
+  pub conserved :
+      (w : ℕ) → sumBy (sends w) rs + inflow s w + firstNeeds s gain w ≡ outflow s w + sumBy (brings w) rs + needs w
   pub total : sumBelow (s .points) needs ≡ gain
   pub done : (w : ℕ) → among todo w ≡ false → needs w ≡ 0
 
@@ -52,13 +53,16 @@ left-kept x v r t h =
         let parts = and-parts (eqb (r .tail) v) (x (r .head)) e in
         h .flow (or-left (eqb v (r .tail)) (x (r .tail)) (eq-eqb v (r .tail) (sym (eqb-true (r .tail) v (parts .0))))) (or-right (eqb v (r .head)) (x (r .head)) (parts .1))
 
-    same : (c d : Bool) → (c ≡ true → t .flow ≡ r .flow) → (d ≡ true → t .flow ≡ r .flow) → cond c (r .limit - r .flow) 0 + cond d (r .flow) 0 ≡ cond c (r .limit - t .flow) 0 + cond d (t .flow) 0
+    same :
+        (c d : Bool) → (c ≡ true → t .flow ≡ r .flow) → (d ≡ true → t .flow ≡ r .flow)
+        → cond c (r .limit - r .flow) 0 + cond d (r .flow) 0 ≡ cond c (r .limit - t .flow) 0 + cond d (t .flow) 0
     same true d e f = rw (e refl) refl
     same false true e f = rw (f refl) refl
     same false false e f = refl
 
 module _ (s : Scheme) (gain : ℕ) (formed : WellFormed s) (lawful : Lawful s) where
-  standing-first : (todo : List ℕ) → among todo (s .outlet) ≡ true → Standing s gain todo (s .reaches) (firstNeeds s gain)
+  standing-first :
+      (todo : List ℕ) → among todo (s .outlet) ≡ true → Standing s gain todo (s .reaches) (firstNeeds s gain)
   standing-first todo holds =
       record {
         kept = each-self (Touched (among todo)) (λ r. record { alike = record { tail = refl; head = refl; limit = refl }; flow = λ t h. refl }) (s .reaches);
@@ -68,11 +72,16 @@ module _ (s : Scheme) (gain : ℕ) (formed : WellFormed s) (lawful : Lawful s) w
         done = λ w far. rw (ne-eqb (s .outlet) w (λ e. both-ways (among todo w) far (sym (ap (among todo) e) ∙ holds))) refl;
       }
 
-  ends-inside : (todo : List ℕ) (rs : List Reach) → Each (Touched (among todo)) (s .reaches) rs → All (λ r. (r .tail < s .points) × (r .head < s .points)) rs
+  ends-inside :
+      (todo : List ℕ) (rs : List Reach) → Each (Touched (among todo)) (s .reaches) rs
+      → All (λ r. (r .tail < s .points) × (r .head < s .points)) rs
   ends-inside todo rs kept =
       each-all (Touched (among todo)) (Joined s) (λ r. (r .tail < s .points) × (r .head < s .points)) (λ r t h j. (rw (h .alike .tail) (j .tail-point), rw (h .alike .head) (j .head-point))) (s .reaches) rs kept (formed .joined)
 
-  standing-next : (v : ℕ) (ws : List ℕ) (rs : List Reach) (needs : Needs) → v < s .points → among ws v ≡ false → gain ≤ leftInto s (among ws) v → Standing s gain (v ∷ ws) rs needs → Standing s gain ws (pushedAll (among ws) v rs needs .0) (pushedAll (among ws) v rs needs .1)
+  standing-next :
+      (v : ℕ) (ws : List ℕ) (rs : List Reach) (needs : Needs) → v < s .points → among ws v ≡ false
+      → gain ≤ leftInto s (among ws) v → Standing s gain (v ∷ ws) rs needs
+      → Standing s gain ws (pushedAll (among ws) v rs needs .0) (pushedAll (among ws) v rs needs .1)
   standing-next v ws rs needs point out enough now =
       let here = steps (among ws) (s .points) v rs needs out in
       let left = each-same (Touched (among (v ∷ ws))) (leftTo (among ws) v) (leftTo (among ws) v) (left-kept (among ws) v) (s .reaches) rs (now .kept) in
@@ -96,27 +105,39 @@ module _ (s : Scheme) (gain : ℕ) (formed : WellFormed s) (lawful : Lawful s) w
 
   -- ---- from stage to stage
 
-  back-one : (v : ℕ) (ws : List ℕ) (rs : List Reach) (needs : Needs) → Ready s gain ws → pushBack (v ∷ ws) rs needs ≡ pushBack ws (pushedAll (among ws) v rs needs .0) (pushedAll (among ws) v rs needs .1)
+  back-one :
+      (v : ℕ) (ws : List ℕ) (rs : List Reach) (needs : Needs) → Ready s gain ws
+      → pushBack (v ∷ ws) rs needs ≡ pushBack ws (pushedAll (among ws) v rs needs .0) (pushedAll (among ws) v rs needs .1)
   back-one v _ rs needs start = refl
   back-one v _ rs needs (more a b c ready) = refl
 
-  standing-back : {todo : List ℕ} (rs : List Reach) (needs : Needs) → Ready s gain todo → Standing s gain todo rs needs → Standing s gain (s .inlet ∷ []) (pushBack todo rs needs .0) (pushBack todo rs needs .1)
+  standing-back :
+      {todo : List ℕ} (rs : List Reach) (needs : Needs) → Ready s gain todo → Standing s gain todo rs needs
+      → Standing s gain (s .inlet ∷ []) (pushBack todo rs needs .0) (pushBack todo rs needs .1)
   standing-back rs needs start now = now
   standing-back rs needs (more {v = v} {ws = ws} point out enough ready) now =
       subst (λ (p : List Reach × Needs). Standing s gain (s .inlet ∷ []) (p .0) (p .1)) (sym (back-one v ws rs needs ready))
       (standing-back (pushedAll (among ws) v rs needs .0) (pushedAll (among ws) v rs needs .1) ready (standing-next v ws rs needs point out enough now))
 
-  ready-rest : {v w : ℕ} {ws : List ℕ} → Ready s gain (v ∷ (w ∷ ws)) → (v < s .points) × (among (w ∷ ws) v ≡ false) × (gain ≤ leftInto s (among (w ∷ ws)) v) × Ready s gain (w ∷ ws)
+  ready-rest :
+      {v w : ℕ} {ws : List ℕ} → Ready s gain (v ∷ (w ∷ ws))
+      → (v < s .points) × (among (w ∷ ws) v ≡ false) × (gain ≤ leftInto s (among (w ∷ ws)) v) × Ready s gain (w ∷ ws)
   ready-rest (more point out enough ready) = (point, out, enough, ready)
 
-  stage-standing : (order : List ℕ) {todo : List ℕ} {rs : List Reach} {needs : Needs} → Ready s gain (reverse order) → among (reverse order) (s .outlet) ≡ true → Stage s order gain todo rs needs → Ready s gain todo × Standing s gain todo rs needs
+  stage-standing :
+      (order : List ℕ) {todo : List ℕ} {rs : List Reach} {needs : Needs} → Ready s gain (reverse order)
+      → among (reverse order) (s .outlet) ≡ true → Stage s order gain todo rs needs
+      → Ready s gain todo × Standing s gain todo rs needs
   stage-standing order ready holds begins = (ready, standing-first (reverse order) holds)
   stage-standing order ready holds (goes-on {v = v} {w = w} {ws = ws} {rs = rs} {needs = needs} before) =
       let now = stage-standing order ready holds before in
       let rest = ready-rest (now .0) in
       (rest .3, standing-next v (w ∷ ws) rs needs (rest .0) (rest .1) (rest .2) (now .1))
 
-  within-gain : (v w : ℕ) (ws : List ℕ) (rs : List Reach) (needs : Needs) → Ready s gain (v ∷ (w ∷ ws)) × Standing s gain (v ∷ (w ∷ ws)) rs needs → (count u : ℕ) → u < s .points → pushedAll (among (w ∷ ws)) v (take count rs) needs .1 u ≤ gain
+  within-gain :
+      (v w : ℕ) (ws : List ℕ) (rs : List Reach) (needs : Needs)
+      → Ready s gain (v ∷ (w ∷ ws)) × Standing s gain (v ∷ (w ∷ ws)) rs needs → (count u : ℕ) → u < s .points
+      → pushedAll (among (w ∷ ws)) v (take count rs) needs .1 u ≤ gain
   within-gain v w ws rs needs now count u point =
       let rest = ready-rest (now .0) in
       let here = steps (among (w ∷ ws)) (s .points) v (take count rs) needs (rest .1) in
@@ -124,7 +145,9 @@ module _ (s : Scheme) (gain : ℕ) (formed : WellFormed s) (lawful : Lawful s) w
       omega (arith, below-term (pushedAll (among (w ∷ ws)) v (take count rs) needs .1) (s .points) u point, total, now .1 .total)
 
   -- the end: only the inlet is left, and needs the gain
-  standing-last : (order : List ℕ) → Standing s gain (s .inlet ∷ []) (push s order gain .reaches) (needsAfter s order gain) → Pushed s order gain
+  standing-last :
+      (order : List ℕ) → Standing s gain (s .inlet ∷ []) (push s order gain .reaches) (needsAfter s order gain)
+      → Pushed s order gain
   standing-last order now =
       record {
         limits = record {
@@ -154,7 +177,8 @@ module _ (s : Scheme) (gain : ℕ) (formed : WellFormed s) (lawful : Lawful s) w
       unasked : (v : ℕ) → v ≢ s .outlet → firstNeeds s gain v ≡ 0
       unasked v ne = rw (ne-eqb (s .outlet) v (λ e. ne (sym e))) refl
 
-      alone : (v : ℕ) → v < s .points → needsAfter s order gain v ≡ cond (eqb (s .inlet) v) (needsAfter s order gain v) 0
+      alone :
+          (v : ℕ) → v < s .points → needsAfter s order gain v ≡ cond (eqb (s .inlet) v) (needsAfter s order gain v) 0
       alone v l =
           ⊎-elim (λ (e : s .inlet ≡ v). rw (eq-eqb (s .inlet) v e) refl)
           (λ (ne : s .inlet ≡ v → ⊥). rw (ne-eqb (s .inlet) v ne) (other v (λ e. ne (sym e)))) (cases-eq (s .inlet) v)

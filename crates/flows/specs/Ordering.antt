@@ -56,7 +56,9 @@ pub record Next (s : Scheme) (x : Points) (v k : ℕ) : Type 0 where
 -- the points taken so far, in order, and the keys of those after the inlet; the outlet is not among them
 pub data Taken (s : Scheme) : List ℕ → List ℕ → Type 0 where
   first : Taken s (s .inlet ∷ []) []
-  next : {ws ks : List ℕ} {v k : ℕ} → Taken s ws ks → Next s (among ws) v k → 0 < k → eqb v (s .outlet) ≡ false → Taken s (ws ++ v ∷ []) (ks ++ k ∷ [])
+  next :
+      {ws ks : List ℕ} {v k : ℕ} → Taken s ws ks → Next s (among ws) v k → 0 < k → eqb v (s .outlet) ≡ false
+      → Taken s (ws ++ v ∷ []) (ks ++ k ∷ [])
 
 -- the least of some keys and one more
 abbrev pub least : List ℕ → ℕ → ℕ
@@ -66,5 +68,7 @@ least (j ∷ js) k = min j (least js k)
 -- An ordering that is made: the order, the keys of the points after the inlet, and the gain. It ends with the
 -- outlet, and the least key is the gain; or where no outside point has a key above 0, and nothing is gained.
 pub data Made (s : Scheme) : List ℕ → List ℕ → ℕ → Type 0 where
-  arrives : {ws ks : List ℕ} {k : ℕ} → Taken s ws ks → Next s (among ws) (s .outlet) k → 0 < k → Made s (ws ++ s .outlet ∷ []) (ks ++ k ∷ []) (least ks k)
+  arrives :
+      {ws ks : List ℕ} {k : ℕ} → Taken s ws ks → Next s (among ws) (s .outlet) k → 0 < k
+      → Made s (ws ++ s .outlet ∷ []) (ks ++ k ∷ []) (least ks k)
   stops : {ws ks : List ℕ} {v : ℕ} → Taken s ws ks → Next s (among ws) v 0 → Made s ws ks 0

@@ -22,7 +22,8 @@ KeysGrowPointByPoint =
 pub record KeysWithin (most : ℕ) (s : Scheme) : Type 0 where
   pub start : startKey ≡ most
   pub from-any : (x : Points) (v : ℕ) → key s x v ≤ most
-  pub on-the-way : (x : Points) (u v count : ℕ) → x u ≡ false → grownFrom u v (take count (s .reaches)) (key s x v) ≤ most
+  pub on-the-way :
+      (x : Points) (u v count : ℕ) → x u ≡ false → grownFrom u v (take count (s .reaches)) (key s x v) ≤ most
   pub gains : (order keys : List ℕ) (gain : ℕ) → Made s order keys gain → gain ≤ most
 
 abbrev pub KeysStayWithin : ℕ → Type 0
@@ -47,7 +48,8 @@ pub record LeastSide (s : Scheme) (order : List ℕ) : Type 0 where
   pub side : Side s (among order)
   pub meets : value s ≡ pos (capacity s (among order))
   pub greatest : Greatest s (value s)
-  pub least : (y : Points) → Side s y → capacity s y ≡ capacity s (among order) → (v : ℕ) → among order v ≡ true → y v ≡ true
+  pub least :
+      (y : Points) → Side s y → capacity s y ≡ capacity s (among order) → (v : ℕ) → among order v ≡ true → y v ≡ true
 
 -- An ordering that gains 0 ends with that side.
 abbrev pub NoGainFindsTheLeastSide : Type 0

@@ -49,7 +49,9 @@ pushAlong s order gain = pushBack (reverse order) (s .reaches) (firstNeeds s gai
 -- A stage of a push: the points still to come, latest first, and the reaches and the needs as they stand.
 pub data Stage (s : Scheme) (order : List ℕ) (gain : ℕ) : List ℕ → List Reach → Needs → Type 0 where
   begins : Stage s order gain (reverse order) (s .reaches) (firstNeeds s gain)
-  goes-on : {v w : ℕ} {ws : List ℕ} {rs : List Reach} {needs : Needs} → Stage s order gain (v ∷ (w ∷ ws)) rs needs → Stage s order gain (w ∷ ws) (pushedAll (among (w ∷ ws)) v rs needs .0) (pushedAll (among (w ∷ ws)) v rs needs .1)
+  goes-on :
+      {v w : ℕ} {ws : List ℕ} {rs : List Reach} {needs : Needs} → Stage s order gain (v ∷ (w ∷ ws)) rs needs
+      → Stage s order gain (w ∷ ws) (pushedAll (among (w ∷ ws)) v rs needs .0) (pushedAll (among (w ∷ ws)) v rs needs .1)
 
 -- the scheme with the new flows, and what each point needs in the end
 abbrev pub push : Scheme → List ℕ → ℕ → Scheme

@@ -16,7 +16,9 @@ pub record Round (s : Scheme) (order keys : List ℕ) (gain : ℕ) (t : Scheme) 
 -- a number of rounds that gain, each on the flows that the one before it left
 pub data Rounds : Scheme → ℕ → Scheme → Type 0 where
   none : {s : Scheme} → Rounds s 0 s
-  more : {s t u : Scheme} {order keys : List ℕ} {gain count : ℕ} → Round s order keys gain t → 0 < gain → Rounds t count u → Rounds s (suc count) u
+  more :
+      {s t u : Scheme} {order keys : List ℕ} {gain count : ℕ} → Round s order keys gain t → 0 < gain → Rounds t count u
+      → Rounds s (suc count) u
 
 -- a settled run: such a chain, ended by a round that gains 0
 pub record Settled (s : Scheme) (count : ℕ) (t : Scheme) : Type 0 where
