@@ -34,7 +34,8 @@ across-by-points :
     (x : Points) (n : ℕ) (r : Reach) → r .tail < n → r .head < n
     → sumBelow n (outsideOf x (λ w. leftTo x w r)) ≡ leftAcross x r
 across-by-points x n r t h =
-    below-same (outsideOf x (λ w. leftTo x w r)) (λ w. on w + back w) n (λ w l. parted (x w) (eqb (r .head) w) (x (r .tail)) (eqb (r .tail) w) (x (r .head)) (leftOn r) (leftBack r))
+    below-same (outsideOf x (λ w. leftTo x w r)) (λ w. on w + back w) n
+    (λ w l. parted (x w) (eqb (r .head) w) (x (r .tail)) (eqb (r .tail) w) (x (r .head)) (leftOn r) (leftBack r))
     ∙ below-plus on back n
     ∙ ap (λ k. k + sumBelow n back) (below-one (r .head) (λ w. cond (x (r .tail) && not (x w)) (leftOn r) 0) n h)
     ∙ ap (λ k. leftOver + k) (below-one (r .tail) (λ w. cond (x (r .head) && not (x w)) (leftBack r) 0) n t)
@@ -57,9 +58,14 @@ across-by-points x n r t h =
 pub left-by-points :
     (s : Scheme) (x : Points) → WellFormed s → sumBelow (s .points) (outsideOf x (leftInto s x)) ≡ leftOut s x
 left-by-points s x formed =
-    below-same (outsideOf x (leftInto s x)) (λ w. sumBy (λ r. outsideOf x (λ v. leftTo x v r) w) (s .reaches)) (s .points) (λ w l. sumBy-when (not (x w)) (leftTo x w) (s .reaches))
-    ∙ exchange (λ w r. outsideOf x (λ v. leftTo x v r) w) (s .points) (s .reaches)
-    ∙ sumBy-same (λ r. sumBelow (s .points) (outsideOf x (λ w. leftTo x w r))) (leftAcross x) (s .reaches) (all-weaker _ _ (λ r j. across-by-points x (s .points) r (j .tail-point) (j .head-point)) (s .reaches) (formed .joined))
+    below-same (outsideOf x (leftInto s x)) (λ w. sumBy (out w) (s .reaches)) (s .points)
+    (λ w l. sumBy-when (not (x w)) (leftTo x w) (s .reaches))
+    ∙ exchange out (s .points) (s .reaches)
+    ∙ sumBy-same (λ r. sumBelow (s .points) (λ w. out w r)) (leftAcross x) (s .reaches)
+    (all-weaker _ _ (λ r j. across-by-points x (s .points) r (j .tail-point) (j .head-point)) (s .reaches) (formed .joined))
+  where
+    out : ℕ → Reach → ℕ
+    out w r = outsideOf x (λ v. leftTo x v r) w
 
 -- a test that passes wherever another does lets as much through
 lets-through : (c d : Bool) (a : ℕ) → (c ≡ true → d ≡ true) → cond c a 0 ≤ cond d a 0

@@ -10,7 +10,7 @@ use lib.IntN.{pos, _+ℤ_}
 use Rattle.std.proofs.shelf.Signed.{ints}
 use Rattle.std.proofs.shelf.Tests.{cases-lt, eq-eqb, ne-eqb, cond-false, or-left, or-from}
 use Rattle.scheme.specs.Scheme.{Scheme}
-use Rattle.scheme.specs.Flow.{Points, Side, Lawful, Greatest, Gap, value, inflow, outflow}
+use Rattle.scheme.specs.Flow.{Points, Side, Lawful, Greatest, Gap, value}
 use Rattle.scheme.specs.Questions.{WellFormed}
 use Rattle.flows.specs.Crossings.{leftOut}
 use Rattle.flows.specs.Ordering.{among, Made}
@@ -19,7 +19,7 @@ use Rattle.flows.specs.PushLaws.{SameLimits}
 use Rattle.flows.specs.Round.{Round, Rounds}
 use Rattle.flows.specs.Round.Rounds.{none, more}
 use Rattle.flows.specs.RoundLaws.{EverySchemeHasOneGap, ChainsAreBounded, CanSettle, EverySchemeSettles, SettledIsGreatest}
-use Rattle.flows.proofs.Signs.{sub-is}
+use Rattle.flows.proofs.Signs.{value-is}
 use Rattle.flows.proofs.Cuts.{left-completes}
 use Rattle.flows.proofs.Ends.{no-gain-least-side}
 use Rattle.flows.proofs.Gaps.{gap-is, round-raises}
@@ -56,7 +56,7 @@ gained-within-side :
 gained-within-side s t x gained formed lawful side limits lawful′ raised =
     let here = left-completes s x formed lawful side in
     let there = left-completes t x (limits-formed s t limits formed) lawful′ (limits-side s t limits x side) in
-    omega (arith, ints, limits-capacity s t limits x, raised, sub-is (outflow s (s .inlet)) (inflow s (s .inlet)), sub-is (outflow t (t .inlet)) (inflow t (t .inlet)))
+    omega (arith, ints, limits-capacity s t limits x, raised, value-is s, value-is t)
 
 pub chains-bounded : ChainsAreBounded
 chains-bounded s t count formed lawful rounds =
@@ -67,8 +67,12 @@ chains-bounded s t count formed lawful rounds =
       gained = come .gained;
       raised = come .raised;
       each-gains = come .each-gains;
-      within-gap = λ gap great. omega (arith, ints, greatest-most s t (gap-is s gap) (come .limits) (come .lawful) great, come .raised, come .each-gains);
-      within-side = λ x side. omega (arith, gained-within-side s t x (come .gained) formed lawful side (come .limits) (come .lawful) (come .raised), come .each-gains);
+      within-gap = λ gap great.
+          let most = greatest-most s t (gap-is s gap) (come .limits) (come .lawful) great in
+          omega (arith, ints, come .raised, come .each-gains);
+      within-side = λ x side.
+          let left = gained-within-side s t x (come .gained) formed lawful side (come .limits) (come .lawful) (come .raised) in
+          omega (arith, come .each-gains);
     }
 
 -- ---- every chain can be brought to its end
@@ -117,11 +121,14 @@ settle zero s x formed lawful side enough =
 settle (suc fuel) s x formed lawful side enough =
     ⊎-elim (λ done. done)
     (λ (g : Gaining s x).
-    let rest = settle fuel (g .after) x (limits-formed s (g .after) (g .limits) formed) (g .lawful) (limits-side s (g .after) (g .limits) x side) (omega (arith, g .left)) in
+    let formed′ = limits-formed s (g .after) (g .limits) formed in
+    let side′ = limits-side s (g .after) (g .limits) x side in
+    let rest = settle fuel (g .after) x formed′ (g .lawful) side′ (omega (arith, g .left)) in
+    let last = rest .settled in
     record {
       count = suc (rest .count);
       after = rest .after;
-      settled = record { rounds = more (g .round) (g .some) (rest .settled .rounds); order = rest .settled .order; keys = rest .settled .keys; ended = rest .settled .ended };
+      settled = record { rounds = more (g .round) (g .some) (last .rounds); order = last .order; keys = last .keys; ended = last .ended };
     })
     (one-round s x formed lawful side)
 

@@ -17,10 +17,10 @@ use Rattle.scheme.specs.declared.rows.Reach.{Reach}
 use Rattle.scheme.specs.Scheme.{Scheme, over, withFlows, flowsOver}
 use Rattle.scheme.specs.Flow.{Points, Side, Lawful, Greatest, inflow, outflow, value, capacity, leaves}
 use Rattle.scheme.specs.Questions.{WellFormed}
-use Rattle.flows.specs.Crossings.{enters, flowOut, flowIn, leftAcross, leftOut}
+use Rattle.flows.specs.Crossings.{enters, flowOut, flowIn, leftOut}
 use Rattle.flows.specs.SideLaws.{ValueCrossesEachSide, NoValueExceedsASide, NoFlowGainsMoreThanIsLeft, FlowAndSideThatMeetAreBest}
 use Rattle.flows.proofs.Sums.{all-of, sumBy-mono, sumBy-balance, sumBy-when, sumBy-same, sumBelow, below-balance, below-one, below-same, exchange}
-use Rattle.flows.proofs.Signs.{same-differences, difference-at-most, sub-is}
+use Rattle.flows.proofs.Signs.{same-differences, difference-at-most, value-is}
 use Rattle.flows.proofs.Relaid.{alike-self, alike-relaid, relaid-alike, formed-alike, side-alike, capacity-alike, flowList}
 
 -- what a set of points passes through one end of each reach, summed by points and by reaches
@@ -28,16 +28,23 @@ by-ends :
     (x : Points) (end : Reach → ℕ) (n : ℕ) (rs : List Reach) → All (λ r. end r < n) rs
     → sumBelow n (λ v. cond (x v) (sumBy (λ r. cond (eqb (end r) v) (r .flow) 0) rs) 0) ≡ sumBy (λ r. cond (x (end r)) (r .flow) 0) rs
 by-ends x end n rs inside =
-    below-same _ (λ v. sumBy (λ r. cond (x v) (cond (eqb (end r) v) (r .flow) 0) 0) rs) n (λ v l. sumBy-when (x v) (λ r. cond (eqb (end r) v) (r .flow) 0) rs)
-    ∙ exchange (λ v r. cond (x v) (cond (eqb (end r) v) (r .flow) 0) 0) n rs
-    ∙ sumBy-same (λ r. sumBelow n (λ v. cond (x v) (cond (eqb (end r) v) (r .flow) 0) 0)) (λ r. cond (x (end r)) (r .flow) 0) rs
-    (all-weaker _ _ (λ r l. below-same _ (λ v. cond (eqb (end r) v) (cond (x v) (r .flow) 0) 0) n (λ v l. turned (x v) (eqb (end r) v) (r .flow)) ∙ below-one (end r) (λ v. cond (x v) (r .flow) 0) n l) rs inside)
+    below-same _ (λ v. sumBy (λ r. cond (x v) (at v r) 0) rs) n (λ v l. sumBy-when (x v) (at v) rs)
+    ∙ exchange (λ v r. cond (x v) (at v r) 0) n rs
+    ∙ sumBy-same (λ r. sumBelow n (λ v. cond (x v) (at v r) 0)) (λ r. cond (x (end r)) (r .flow) 0) rs
+    (all-weaker _ _ one rs inside)
   where
+    at : ℕ → Reach → ℕ
+    at v r = cond (eqb (end r) v) (r .flow) 0
+
     turned : (a b : Bool) (f : ℕ) → cond a (cond b f 0) 0 ≡ cond b (cond a f 0) 0
-    turned true true f = refl
-    turned true false f = refl
+    turned true b f = refl
     turned false true f = refl
     turned false false f = refl
+
+    one : (r : Reach) → end r < n → sumBelow n (λ v. cond (x v) (at v r) 0) ≡ cond (x (end r)) (r .flow) 0
+    one r l =
+        below-same _ (λ v. cond (eqb (end r) v) (cond (x v) (r .flow) 0) 0) n (λ v _. turned (x v) (eqb (end r) v) (r .flow))
+        ∙ below-one (end r) (λ v. cond (x v) (r .flow) 0) n l
 
 -- a reach with one end in the set leaves it or enters it
 border : (t h : Bool) (f : ℕ) → cond t f 0 + cond (h && not t) f 0 ≡ cond h f 0 + cond (t && not h) f 0
@@ -45,6 +52,12 @@ border true true f = refl
 border true false f = omega arith
 border false true f = omega arith
 border false false f = refl
+
+borders :
+    (x : Points) (rs : List Reach)
+    → sumBy (λ r. cond (x (r .tail)) (r .flow) 0) rs + sumBy (λ r. cond (enters x r) (r .flow) 0) rs
+    ≡ sumBy (λ r. cond (x (r .head)) (r .flow) 0) rs + sumBy (λ r. cond (leaves x r) (r .flow) 0) rs
+borders x rs = sumBy-balance _ _ _ _ rs (all-of _ (λ r. border (x (r .tail)) (x (r .head)) (r .flow)) rs)
 
 module _ (s : Scheme) (x : Points) (formed : WellFormed s) (lawful : Lawful s) (side : Side s x) where
   -- of the points of a side only the inlet is out of balance
@@ -56,14 +69,16 @@ module _ (s : Scheme) (x : Points) (formed : WellFormed s) (lawful : Lawful s) (
       (λ (e : s .inlet ≡ v). rw (eq-eqb (s .inlet) v e, ← e, side .holds) (omega arith))
       (λ ne.
       ⊎-elim
-      (λ (yes : x v ≡ true). rw (ne-eqb (s .inlet) v ne, yes) (omega (arith, lawful .balanced v l (λ e. ne (sym e)) (λ e. both-ways (x v) (ap x e ∙ side .lacks) yes))))
+      (λ (yes : x v ≡ true).
+      let inner : inflow s v ≡ outflow s v = lawful .balanced v l (λ e. ne (sym e)) (λ e. both-ways (x v) (ap x e ∙ side .lacks) yes) in
+      rw (ne-eqb (s .inlet) v ne, yes) (omega arith))
       (λ (no : x v ≡ false). rw (ne-eqb (s .inlet) v ne, no) refl) (cases-bool (x v)))
       (cases-eq (s .inlet) v)
 
   pub crossing : outflow s (s .inlet) + flowIn s x ≡ inflow s (s .inlet) + flowOut s x
   crossing =
       let points = below-balance _ _ _ _ (s .points) steady-point in
-      let reaches = sumBy-balance (λ r. cond (x (r .tail)) (r .flow) 0) (λ r. cond (enters x r) (r .flow) 0) (λ r. cond (x (r .head)) (r .flow) 0) (λ r. cond (leaves x r) (r .flow) 0) (s .reaches) (all-of _ (λ r. border (x (r .tail)) (x (r .head)) (r .flow)) (s .reaches)) in
+      let reaches = borders x (s .reaches) in
       let tails = by-ends x (λ r. r .tail) (s .points) (s .reaches) (all-weaker _ _ (λ r j. j .tail-point) (s .reaches) (formed .joined)) in
       let heads = by-ends x (λ r. r .head) (s .points) (s .reaches) (all-weaker _ _ (λ r j. j .head-point) (s .reaches) (formed .joined)) in
       let out = below-one (s .inlet) (outflow s) (s .points) (formed .inlet-point) in
@@ -97,7 +112,7 @@ made-up false e f c h = omega arith
 
 left-and-out : (s : Scheme) (x : Points) → Lawful s → leftOut s x + flowOut s x ≡ capacity s x + flowIn s x
 left-and-out s x lawful =
-    sumBy-balance (leftAcross x) (λ r. cond (leaves x r) (r .flow) 0) (λ r. cond (leaves x r) (r .limit) 0) (λ r. cond (enters x r) (r .flow) 0) (s .reaches)
+    sumBy-balance _ _ _ _ (s .reaches)
     (all-weaker _ _ (λ r h. made-up (leaves x r) (enters x r) (r .flow) (r .limit) h) (s .reaches) (lawful .within))
 
 -- the value and what is left out of a side together are its capacity
@@ -114,7 +129,7 @@ relaid-gain s x fs formed lawful side covers lawful′ =
     let within = value-within (over s ts) x (formed-alike s ts alike formed) lawful′ (side-alike s ts alike x side) in
     let same = capacity-alike s ts alike x in
     let full = left-completes s x formed lawful side in
-    omega (arith, ints, sub-is (outflow s (s .inlet)) (inflow s (s .inlet)))
+    omega (arith, ints, value-is s)
 
 -- ---- a flow and a side that meet
 

@@ -9,7 +9,7 @@ use lib.IntN.{pos}
 use Rattle.std.proofs.shelf.Tests.{cases-bool, both-ways}
 use Rattle.std.proofs.shelf.Signed.{ints}
 use Rattle.scheme.specs.Scheme.{Scheme}
-use Rattle.scheme.specs.Flow.{Points, Side, Lawful, value, capacity, inflow, outflow}
+use Rattle.scheme.specs.Flow.{Points, Side, Lawful, value, capacity}
 use Rattle.scheme.specs.Questions.{WellFormed}
 use Rattle.flows.specs.Crossings.{leftOut}
 use Rattle.flows.specs.Ordering.{among, leftInto, least, Next, Taken, Made}
@@ -17,7 +17,7 @@ use Rattle.flows.specs.Ordering.Taken.{first, next}
 use Rattle.flows.specs.Ordering.Made.{arrives, stops}
 use Rattle.flows.specs.OrderingLaws.{LeastSide, NoGainFindsTheLeastSide}
 use Rattle.flows.proofs.Sums.{below-same, below-none}
-use Rattle.flows.proofs.Signs.{sub-is}
+use Rattle.flows.proofs.Signs.{value-is}
 use Rattle.flows.proofs.Cuts.{left-completes, meet-best}
 use Rattle.flows.proofs.Borders.{outsideOf, left-by-points, left-within}
 use Rattle.flows.proofs.Keys.{key-at-most-left, no-key-nothing-left}
@@ -39,12 +39,12 @@ module _ (s : Scheme) (x : Points) (formed : WellFormed s) (lawful : Lawful s) (
   pub meets-if-nothing-left : leftOut s x ≡ 0 → value s ≡ pos (capacity s x)
   meets-if-nothing-left none =
       let full = left-completes s x formed lawful side in
-      omega (arith, ints, sub-is (outflow s (s .inlet)) (inflow s (s .inlet)))
+      omega (arith, ints, value-is s)
 
   pub nothing-left-if-meets : value s ≡ pos (capacity s x) → leftOut s x ≡ 0
   nothing-left-if-meets meets =
       let full = left-completes s x formed lawful side in
-      omega (arith, ints, sub-is (outflow s (s .inlet)) (inflow s (s .inlet)), meets)
+      omega (arith, ints, value-is s, meets)
 
 -- a set with the inlet, of which nothing is left out, holds every point that is taken
 taken-inside :

@@ -88,8 +88,12 @@ fitting-next s ws ks v k out fits =
         let front : i < length ws = omega arith in
         let early = getD-append-left ws (v ∷ []) 0 i front in
         ⊎-elim
-        (λ (e : j ≡ length ws). both-ways (among ws v) (out .1) (sym (ap (among ws) (sym early ∙ same ∙ getD-push ws v 0 j (sym e))) ∙ among-getD ws i front))
-        (λ (ne : j ≡ length ws → ⊥). let behind : j < length ws = omega arith in fits .once i j less behind (sym early ∙ same ∙ getD-append-left ws (v ∷ []) 0 j behind))
+        (λ (e : j ≡ length ws).
+        let is-v = sym early ∙ same ∙ getD-push ws v 0 j (sym e) in
+        both-ways (among ws v) (out .1) (sym (ap (among ws) is-v) ∙ among-getD ws i front))
+        (λ (ne : j ≡ length ws → ⊥).
+        let behind : j < length ws = omega arith in
+        fits .once i j less behind (sym early ∙ same ∙ getD-append-left ws (v ∷ []) 0 j behind))
         (cases-eq j (length ws))
 
 taken-fits : (s : Scheme) {ws ks : List ℕ} → WellFormed s → Taken s ws ks → Fitting s ws ks

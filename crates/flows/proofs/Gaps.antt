@@ -68,13 +68,17 @@ narrow-taken s k (next {ws = ws} {ks = ks} {v = v} {k = j} taken n above inner) 
     (⊎-elim
     (λ (e : least ks (min j k) ≡ min j k).
     ⊎-elim (λ (l : k < j). inl (omega arith))
-    (λ (l : j ≤ k). let is : least ks (min j k) ≡ j = omega arith in inr (rw is (record { points = ws; keys = ks; point = v; taken = taken; after = n })))
+    (λ (l : j ≤ k).
+    let is : least ks (min j k) ≡ j = omega arith in
+    inr (rw is (record { points = ws; keys = ks; point = v; taken = taken; after = n })))
     (cases-lt k j))
     inr (narrow-taken s (min j k) taken))
 
 narrow : (s : Scheme) {order keys : List ℕ} (gain : ℕ) → 0 < gain → Made s order keys gain → Narrow s gain
 narrow s gain some (arrives {ws = ws} {ks = ks} {k = k} taken n above) =
-    ⊎-elim (λ (e : least ks k ≡ k). rw e (record { points = ws; keys = ks; point = s .outlet; taken = taken; after = n })) (λ found. found) (narrow-taken s k taken)
+    ⊎-elim
+    (λ (e : least ks k ≡ k). rw e (record { points = ws; keys = ks; point = s .outlet; taken = taken; after = n }))
+    (λ found. found) (narrow-taken s k taken)
 narrow s gain some (stops taken n) = absurd (omega arith)
 
 -- what is left out there: at most the gain for each point but the inlet
@@ -89,7 +93,11 @@ module _ (s : Scheme) (gain : ℕ) (formed : WellFormed s) (narrow : Narrow s ga
   each-at-most w l =
       ⊎-elim
       (λ (held : sofar w ≡ true). rw held (small (eqb (s .inlet) w)))
-      (λ (out : sofar w ≡ false). let most = narrow .after .greatest w (l, out) in let left = left-at-most-key s sofar w in rw (out, ne-eqb (s .inlet) w (λ e. both-ways (sofar w) out (sym (ap sofar e) ∙ narrow-side .holds))) (omega arith)) (cases-bool (sofar w))
+      (λ (out : sofar w ≡ false).
+      let most = narrow .after .greatest w (l, out) in
+      let left = left-at-most-key s sofar w in
+      rw (out, ne-eqb (s .inlet) w (λ e. both-ways (sofar w) out (sym (ap sofar e) ∙ narrow-side .holds))) (omega arith))
+      (cases-bool (sofar w))
     where
       small : (b : Bool) → 0 + cond b gain 0 ≤ gain
       small true = omega arith
@@ -99,7 +107,9 @@ module _ (s : Scheme) (gain : ℕ) (formed : WellFormed s) (narrow : Narrow s ga
   narrow-left =
       let sums = below-plus (outsideOf sofar (leftInto s sofar)) (λ w. cond (eqb (s .inlet) w) gain 0) (s .points) in
       let most = below-mono _ (λ w. gain) (s .points) each-at-most in
-      omega (arith, left-by-points s sofar formed, below-one (s .inlet) (λ w. gain) (s .points) (formed .inlet-point), below-const gain (s .points))
+      let by-points = left-by-points s sofar formed in
+      let inlet = below-one (s .inlet) (λ w. gain) (s .points) (formed .inlet-point) in
+      omega (arith, below-const gain (s .points))
 
 -- ---- a round that gains
 

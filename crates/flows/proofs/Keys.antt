@@ -37,13 +37,17 @@ lets-at-most false a = omega arith
 
 from-any : (s : Scheme) (x : Points) (v : ℕ) → WellFormed s → Lawful s → key s x v ≤ startKey
 from-any s x v formed lawful =
-    let each = all-weaker _ (λ r. leftTo x v r ≤ 2000000) one (s .reaches) (all-both (Joined s) (λ r. r .flow ≤ r .limit) (s .reaches) (formed .joined) (lawful .within)) in
+    let facts = all-both (Joined s) (λ r. r .flow ≤ r .limit) (s .reaches) (formed .joined) (lawful .within) in
+    let each = all-weaker _ (λ r. leftTo x v r ≤ 2000000) one (s .reaches) facts in
     let sum = sumBy-le (leftTo x v) 2000000 (s .reaches) each in
     let least = key-at-most-left s x v in
     omega (arith, formed .few-reaches)
   where
     one : (r : Reach) → Joined s r × (r .flow ≤ r .limit) → leftTo x v r ≤ 2000000
-    one r h = omega (arith, h .0 .bounded, lets-at-most (eqb (r .head) v && x (r .tail)) (leftOn r), lets-at-most (eqb (r .tail) v && x (r .head)) (leftBack r))
+    one r h =
+        let on = lets-at-most (eqb (r .head) v && x (r .tail)) (leftOn r) in
+        let back = lets-at-most (eqb (r .tail) v && x (r .head)) (leftBack r) in
+        omega (arith, h .0 .bounded)
 
 -- ---- one point more
 
@@ -51,7 +55,9 @@ from-any s x v formed lawful =
 left-parts :
     (x : Points) (u v : ℕ) → x u ≡ false → (r : Reach) → leftTo (withPoint x u) v r ≡ leftTo x v r + leftTo (eqb u) v r
 left-parts x u v out r =
-    omega (arith, part (eqb (r .head) v) (x (r .tail)) (eqb u (r .tail)) (leftOn r) (apart (r .tail)), part (eqb (r .tail) v) (x (r .head)) (eqb u (r .head)) (leftBack r) (apart (r .head)))
+    let on = part (eqb (r .head) v) (x (r .tail)) (eqb u (r .tail)) (leftOn r) (apart (r .tail)) in
+    let back = part (eqb (r .tail) v) (x (r .head)) (eqb u (r .head)) (leftBack r) (apart (r .head)) in
+    omega arith
   where
     apart : (w : ℕ) → eqb u w ≡ true → x w ≡ false
     apart w e = rw (← eqb-true u w e) out

@@ -14,7 +14,9 @@ use Rattle.flows.specs.Ordering.Taken.{first, next}
 -- the points after one more
 pub among-push : (ws : List ℕ) (v u : ℕ) → among (ws ++ v ∷ []) u ≡ (among ws u || eqb v u)
 among-push [] v u = elim (eqb v u) as (λ b. (b || false) ≡ b) [ true ↦ refl | false ↦ refl ]
-among-push (w ∷ ws) v u = ap (λ b. eqb w u || b) (among-push ws v u) ∙ elim (eqb w u) as (λ b. (b || (among ws u || eqb v u)) ≡ ((b || among ws u) || eqb v u)) [ true ↦ refl | false ↦ refl ]
+among-push (w ∷ ws) v u =
+    ap (λ b. eqb w u || b) (among-push ws v u)
+    ∙ elim (eqb w u) as (λ b. (b || (among ws u || eqb v u)) ≡ ((b || among ws u) || eqb v u)) [ true ↦ refl | false ↦ refl ]
 
 pub among-earlier : (ws : List ℕ) (v u : ℕ) → among ws u ≡ true → among (ws ++ v ∷ []) u ≡ true
 among-earlier ws v u h = among-push ws v u ∙ or-left (among ws u) (eqb v u) h

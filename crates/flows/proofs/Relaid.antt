@@ -1,5 +1,5 @@
 -- Other flows laid over the same reaches.
-use mathlib.Core.Path.{_≡_, refl, ap₂, sym}
+use mathlib.Core.Path.{_≡_, refl, ap₂, sym, _∙_}
 use mathlib.Core.List.{List, [], _∷_, map}
 use mathlib.Core.Bool.{cond}
 use Prim.Native.Nat.{ℕ}
@@ -19,14 +19,23 @@ pub record Alike (r t : Reach) : Type 0 where
   pub head : t .head ≡ r .head
   pub limit : t .limit ≡ r .limit
 
+pub alike-same : (r : Reach) → Alike r r
+alike-same r = record { tail = refl; head = refl; limit = refl }
+
+pub alike-flowing : (f : ℕ) (r : Reach) → Alike r (flowing f r)
+alike-flowing f r = record { tail = refl; head = refl; limit = refl }
+
+pub alike-then : (r t u : Reach) → Alike r t → Alike t u → Alike r u
+alike-then r t u a b = record { tail = b .tail ∙ a .tail; head = b .head ∙ a .head; limit = b .limit ∙ a .limit }
+
 pub alike-self : (rs : List Reach) → Each Alike rs rs
 alike-self [] = tt
-alike-self (r ∷ rs) = (record { tail = refl; head = refl; limit = refl }, alike-self rs)
+alike-self (r ∷ rs) = (alike-same r, alike-self rs)
 
 pub alike-relaid : (rs : List Reach) (fs : List ℕ) → Each Alike rs (flowsOver rs fs)
 alike-relaid [] fs = tt
 alike-relaid (r ∷ rs) [] = alike-self (r ∷ rs)
-alike-relaid (r ∷ rs) (f ∷ fs) = (record { tail = refl; head = refl; limit = refl }, alike-relaid rs fs)
+alike-relaid (r ∷ rs) (f ∷ fs) = (alike-flowing f r, alike-relaid rs fs)
 
 abbrev pub flowList : List Reach → List ℕ
 flowList rs = map (λ r. r .flow) rs

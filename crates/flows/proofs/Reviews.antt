@@ -16,6 +16,7 @@ itself q = (λ e. e, λ e. e)
 pub accepted-best : AcceptedReviewMeansGreatest
 accepted-best s marks accepted =
     let parts = append-means (bookQuestions s) (sideQuestions s marks) (book-means s) (itself (firstNo (sideQuestions s marks))) .0 accepted in
-    let side = or-means (askSide s marks) (firstNo (askCapacity s marks ∷ [])) (test-means (sided s marks) _ (sided-decides s marks)) (itself (firstNo (askCapacity s marks ∷ []))) .0 (parts .1) .0 in
+    let rest : Question = firstNo (askCapacity s marks ∷ []) in
+    let side = or-means (askSide s marks) rest (test-means (sided s marks) _ (sided-decides s marks)) (itself rest) .0 (parts .1) .0 in
     let law = check-law s marks (Ok tt) (sym accepted) (parts .0 .0) side .0 refl in
     meet-best s (marked marks) (parts .0 .0) (law .0) (side .side) (law .1)

@@ -110,11 +110,14 @@ make :
     → HasOrdering s
 make s zero ws ks formed enough taken =
     let lacks = taken-lacks-outlet s (formed .apart) taken in
-    let one : 1 ≤ outsiders s (among ws) = rw lacks at (below-term (outsideOf (among ws) (λ w. 1)) (s .points) (s .outlet) (formed .outlet-point)) in
+    let outlet = below-term (outsideOf (among ws) (λ w. 1)) (s .points) (s .outlet) (formed .outlet-point) in
+    let one : 1 ≤ outsiders s (among ws) = rw lacks at outlet in
     absurd (omega arith)
 make s (suc fuel) ws ks formed enough taken =
     ⊎-elim (λ done. done)
-    (λ (more : Further s ws ks). make s fuel (ws ++ more .point ∷ []) (ks ++ more .its-key ∷ []) formed (omega (arith, fewer s ws (more .point) (more .outside))) (more .taken))
+    (λ (more : Further s ws ks).
+    let less = fewer s ws (more .point) (more .outside) in
+    make s fuel (ws ++ more .point ∷ []) (ks ++ more .its-key ∷ []) formed (omega arith) (more .taken))
     (go-on s ws ks formed taken)
 
 pub has-ordering : EverySchemeHasAnOrdering

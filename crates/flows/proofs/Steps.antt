@@ -17,7 +17,7 @@ use Rattle.scheme.specs.Flow.{Points, leftOn, leftBack}
 use Rattle.flows.specs.Ordering.{leftTo}
 use Rattle.flows.specs.Push.{Needs, moved, pushed, pushedAll}
 use Rattle.flows.proofs.Sums.{sumBelow, below-balance, below-one}
-use Rattle.flows.proofs.Relaid.{Alike}
+use Rattle.flows.proofs.Relaid.{Alike, alike-same, alike-flowing}
 
 -- what a reach sends out of a point, and into it
 abbrev pub sends : ℕ → Reach → ℕ
@@ -31,6 +31,9 @@ pub record Touched (x : Points) (r t : Reach) : Type 0 where
   pub alike : Alike r t
   pub flow : x (r .tail) ≡ true → x (r .head) ≡ true → t .flow ≡ r .flow
 
+pub untouched : (x : Points) (r : Reach) → Touched x r r
+untouched x r = record { alike = alike-same r; flow = λ t h. refl }
+
 -- one reach: every point's net outflow rises by as much as its need
 pub record Step (x : Points) (n v : ℕ) (r t : Reach) (needs after : Needs) : Type 0 where
   pub touched : Touched x r t
@@ -40,45 +43,57 @@ pub record Step (x : Points) (n v : ℕ) (r t : Reach) (needs after : Needs) : T
   pub others : (w : ℕ) → x w ≡ false → v ≢ w → after w ≡ needs w
   pub total : v < n → r .tail < n → r .head < n → sumBelow n after ≡ sumBelow n needs
 
--- a of what v needs moves to u: where u is another point
-module _ (a v u : ℕ) (needs : Needs) (enough : a ≤ needs v) where
-  moved-total : (n : ℕ) → v < n → u < n → sumBelow n (moved a v u needs) ≡ sumBelow n needs
-  moved-total n vn un =
-      let both = below-balance (moved a v u needs) (λ w. cond (eqb v w) a 0) needs (λ w. cond (eqb u w) a 0) n (λ w l. shifted (eqb u w) (eqb v w) (needs w) (λ e. rw (← eqb-true v w e) enough)) in
-      omega (arith, below-one v (λ w. a) n vn, below-one u (λ w. a) n un)
-    where
-      shifted : (t h : Bool) (n : ℕ) → (h ≡ true → a ≤ n) → (n + cond t a 0 - cond h a 0) + cond h a 0 ≡ n + cond t a 0
-      shifted true true n e = omega (arith, e refl)
-      shifted false true n e = omega (arith, e refl)
-      shifted true false n e = omega arith
-      shifted false false n e = omega arith
+-- an amount of what v needs moves to a point u of x, where v is outside
+record Moves (x : Points) (n a v u : ℕ) (needs : Needs) : Type 0 where
+  elsewhere : (w : ℕ) → x w ≡ false → eqb u w ≡ false
+  asked : (w : ℕ) → eqb v w ≡ true → a ≤ needs w
+  drained : moved a v u needs v ≡ needs v - a
+  others : (w : ℕ) → x w ≡ false → v ≢ w → moved a v u needs w ≡ needs w
+  total : v < n → u < n → sumBelow n (moved a v u needs) ≡ sumBelow n needs
 
-  module _ (x : Points) (here : x u ≡ true) (out : x v ≡ false) where
-    differs : (w : ℕ) → x w ≡ false → eqb u w ≡ false
-    differs w far = ne-eqb u w (λ e. both-ways (x w) far (sym (ap x e) ∙ here))
+moves :
+    (x : Points) (n a v u : ℕ) (needs : Needs) → a ≤ needs v → x u ≡ true → x v ≡ false → Moves x n a v u needs
+moves x n a v u needs enough here out =
+    record {
+      elsewhere = elsewhere;
+      asked = asked;
+      drained = rw (elsewhere v out, eq-eqb v v refl) (omega arith);
+      others = λ w far ne. rw (elsewhere w far, ne-eqb v w ne) (omega arith);
+      total = λ vn un.
+          let both = below-balance (moved a v u needs) (λ w. cond (eqb v w) a 0) needs (λ w. cond (eqb u w) a 0) n shift in
+          omega (arith, below-one v (λ w. a) n vn, below-one u (λ w. a) n un);
+    }
+  where
+    elsewhere : (w : ℕ) → x w ≡ false → eqb u w ≡ false
+    elsewhere w far = ne-eqb u w (λ e. both-ways (x w) far (sym (ap x e) ∙ here))
 
-    moved-drained : moved a v u needs v ≡ needs v - a
-    moved-drained = rw (differs v out, eq-eqb v v refl) (omega arith)
+    asked : (w : ℕ) → eqb v w ≡ true → a ≤ needs w
+    asked w e = rw (← eqb-true v w e) enough
 
-    moved-others : (w : ℕ) → x w ≡ false → v ≢ w → moved a v u needs w ≡ needs w
-    moved-others w far ne = rw (differs w far, ne-eqb v w ne) (omega arith)
+    at-one : (t h : Bool) (n : ℕ) → (h ≡ true → a ≤ n) → (n + cond t a 0 - cond h a 0) + cond h a 0 ≡ n + cond t a 0
+    at-one true true n e = omega (arith, e refl)
+    at-one false true n e = omega (arith, e refl)
+    at-one true false n e = omega arith
+    at-one false false n e = omega arith
+
+    shift : (w : ℕ) → w < n → moved a v u needs w + cond (eqb v w) a 0 ≡ needs w + cond (eqb u w) a 0
+    shift w l = at-one (eqb u w) (eqb v w) (needs w) (asked w)
 
 module _ (x : Points) (n v : ℕ) (r : Reach) (needs : Needs) (out : x v ≡ false) where
   -- with the stream: the reach ends at v
-  step-on : r .head ≡ v → x (r .tail) ≡ true → let a = min (needs v) (leftOn r) in Step x n v r (flowing (r .flow + a) r) needs (moved a v (r .tail) needs)
+  step-on :
+      r .head ≡ v → x (r .tail) ≡ true
+      → let a = min (needs v) (leftOn r) in Step x n v r (flowing (r .flow + a) r) needs (moved a v (r .tail) needs)
   step-on e here =
       let a = min (needs v) (leftOn r) in
-      let enough : a ≤ needs v = omega arith in
+      let move = moves x n a v (r .tail) needs (omega arith) here out in
       record {
-        touched = record {
-          alike = record { tail = refl; head = refl; limit = refl };
-          flow = λ t h. absurd (both-ways (x (r .head)) (ap x e ∙ out) h);
-        };
+        touched = record { alike = alike-flowing _ r; flow = λ t h. absurd (both-ways (x (r .head)) (ap x e ∙ out) h) };
         within = λ h. omega arith;
-        conserved = λ w. rw e (kept (eqb (r .tail) w) (eqb v w) (r .flow) a (needs w) (λ s. rw (← eqb-true v w s) enough));
-        drained = moved-drained a v (r .tail) needs enough x here out ∙ rw (eq-eqb (r .head) v e, here, differs a v (r .tail) needs enough x here out v out) (omega arith);
-        others = moved-others a v (r .tail) needs enough x here out;
-        total = λ vn tn hn. moved-total a v (r .tail) needs enough n vn tn;
+        conserved = λ w. rw e (kept (eqb (r .tail) w) (eqb v w) (r .flow) a (needs w) (move .asked w));
+        drained = move .drained ∙ rw (eq-eqb (r .head) v e, here, move .elsewhere v out) (omega arith);
+        others = move .others;
+        total = λ vn tn hn. move .total vn tn;
       }
     where
       kept :
@@ -90,21 +105,19 @@ module _ (x : Points) (n v : ℕ) (r : Reach) (needs : Needs) (out : x v ≡ fal
       kept false false f a n e = omega arith
 
   -- against it: the reach starts at v, and flow is taken back
-  step-back : (eqb (r .head) v && x (r .tail)) ≡ false → r .tail ≡ v → x (r .head) ≡ true → let a = min (needs v) (leftBack r) in Step x n v r (flowing (r .flow - a) r) needs (moved a v (r .head) needs)
+  step-back :
+      (eqb (r .head) v && x (r .tail)) ≡ false → r .tail ≡ v → x (r .head) ≡ true
+      → let a = min (needs v) (leftBack r) in Step x n v r (flowing (r .flow - a) r) needs (moved a v (r .head) needs)
   step-back not-on e here =
       let a = min (needs v) (leftBack r) in
-      let enough : a ≤ needs v = omega arith in
-      let some : a ≤ r .flow = omega arith in
+      let move = moves x n a v (r .head) needs (omega arith) here out in
       record {
-        touched = record {
-          alike = record { tail = refl; head = refl; limit = refl };
-          flow = λ t h. absurd (both-ways (x (r .tail)) (ap x e ∙ out) t);
-        };
+        touched = record { alike = alike-flowing _ r; flow = λ t h. absurd (both-ways (x (r .tail)) (ap x e ∙ out) t) };
         within = λ h. omega arith;
-        conserved = λ w. rw e (kept (eqb v w) (eqb (r .head) w) (r .flow) a (needs w) some (λ s. rw (← eqb-true v w s) enough));
-        drained = moved-drained a v (r .head) needs enough x here out ∙ rw (not-on, eq-eqb (r .tail) v e, here) (omega arith);
-        others = moved-others a v (r .head) needs enough x here out;
-        total = λ vn tn hn. moved-total a v (r .head) needs enough n vn hn;
+        conserved = λ w. rw e (kept (eqb v w) (eqb (r .head) w) (r .flow) a (needs w) (omega arith) (move .asked w));
+        drained = move .drained ∙ rw (not-on, eq-eqb (r .tail) v e, here) (omega arith);
+        others = move .others;
+        total = λ vn tn hn. move .total vn hn;
       }
     where
       kept :
@@ -119,7 +132,7 @@ module _ (x : Points) (n v : ℕ) (r : Reach) (needs : Needs) (out : x v ≡ fal
       (eqb (r .head) v && x (r .tail)) ≡ false → (eqb (r .tail) v && x (r .head)) ≡ false → Step x n v r r needs needs
   step-none not-on not-back =
       record {
-        touched = record { alike = record { tail = refl; head = refl; limit = refl }; flow = λ t h. refl };
+        touched = untouched x r;
         within = λ h. h;
         conserved = λ w. omega arith;
         drained = rw (not-on, not-back) (omega arith);
@@ -168,7 +181,11 @@ steps x n v (r ∷ rs) needs out =
       touched = (here .touched, rest .touched);
       within = λ h. (here .within (h .0), rest .within (h .1));
       conserved = λ w.
-          omega (arith, here .conserved w, rest .conserved w, sumBy-cons (sends w) r rs, sumBy-cons (brings w) r rs, sumBy-cons (sends w) (one .0) (all .0), sumBy-cons (brings w) (one .0) (all .0));
+          let sent = sumBy-cons (sends w) r rs in
+          let sent′ = sumBy-cons (sends w) (one .0) (all .0) in
+          let brought = sumBy-cons (brings w) r rs in
+          let brought′ = sumBy-cons (brings w) (one .0) (all .0) in
+          omega (arith, here .conserved w, rest .conserved w);
       drained = omega (arith, here .drained, rest .drained, sumBy-cons (leftTo x v) r rs);
       others = λ w far ne. rest .others w far ne ∙ here .others w far ne;
       total = λ vn ends. rest .total vn (ends .1) ∙ here .total vn (ends .0 .0) (ends .0 .1);
@@ -176,11 +193,19 @@ steps x n v (r ∷ rs) needs out =
 
 -- ---- reach by reach, as a loop goes through them
 
-pub pushed-append : (x : Points) (v : ℕ) (rs ts : List Reach) (needs : Needs) → let front = pushedAll x v rs needs in let back = pushedAll x v ts (front .1) in pushedAll x v (rs ++ ts) needs ≡ (front .0 ++ back .0, back .1)
+pub pushed-append :
+    (x : Points) (v : ℕ) (rs ts : List Reach) (needs : Needs)
+    → let front = pushedAll x v rs needs in
+    let back = pushedAll x v ts (front .1) in
+    pushedAll x v (rs ++ ts) needs ≡ (front .0 ++ back .0, back .1)
 pushed-append x v [] ts needs = refl
 pushed-append x v (r ∷ rs) ts needs =
     let one = pushed x v r needs in
     ap (λ (p : List Reach × Needs). (one .0 ∷ p .0, p .1)) (pushed-append x v rs ts (one .1))
 
-pub pushed-more : (x : Points) (v : ℕ) (rs : List Reach) (needs : Needs) (i : ℕ) (d : Reach) → i < length rs → let front = pushedAll x v (take i rs) needs in let one = pushed x v (getD rs i d) (front .1) in pushedAll x v (take (i + 1) rs) needs ≡ (front .0 ++ one .0 ∷ [], one .1)
+pub pushed-more :
+    (x : Points) (v : ℕ) (rs : List Reach) (needs : Needs) (i : ℕ) (d : Reach) → i < length rs
+    → let front = pushedAll x v (take i rs) needs in
+    let one = pushed x v (getD rs i d) (front .1) in
+    pushedAll x v (take (i + 1) rs) needs ≡ (front .0 ++ one .0 ∷ [], one .1)
 pushed-more x v rs needs i d l = rw (take-more rs i d l) (pushed-append x v (take i rs) (getD rs i d ∷ []) needs)

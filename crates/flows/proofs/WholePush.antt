@@ -23,11 +23,11 @@ use Rattle.flows.specs.Push.{Needs, Stage, firstNeeds, pushedAll, pushBack, pu
 use Rattle.flows.specs.Push.Stage.{begins, goes-on}
 use Rattle.flows.specs.PushLaws.{Pushed, PushRaisesTheValueByTheGain, NeedsStayWithinTheGain}
 use Rattle.flows.proofs.Sums.{sumBelow, below-one, below-same, below-term, each-all, each-same, each-self, each-then, each-weaker}
-use Rattle.flows.proofs.Signs.{sub-is}
-use Rattle.flows.proofs.Relaid.{Alike, flowList, relaid-alike}
+use Rattle.flows.proofs.Signs.{value-is}
+use Rattle.flows.proofs.Relaid.{Alike, alike-then, flowList, relaid-alike}
 use Rattle.flows.proofs.Backwards.{Ready, made-ready, made-outlet}
 use Rattle.flows.proofs.Backwards.Ready.{start, more}
-use Rattle.flows.proofs.Steps.{Touched, steps, sends, brings}
+use Rattle.flows.proofs.Steps.{Touched, untouched, steps, sends, brings}
 
 pub record Standing (s : Scheme) (gain : ℕ) (todo : List ℕ) (rs : List Reach) (needs : Needs) : Type 0 where
   pub kept : Each (Touched (among todo)) (s .reaches) rs
@@ -43,15 +43,21 @@ left-kept x v r t h =
     rw (h .alike .tail, h .alike .head, h .alike .limit)
     (same (eqb (r .head) v && x (r .tail)) (eqb (r .tail) v && x (r .head)) on back)
   where
+    here : (w : ℕ) → eqb w v ≡ true → (eqb v w || x w) ≡ true
+    here w e = or-left (eqb v w) (x w) (eq-eqb v w (sym (eqb-true w v e)))
+
+    there : (w : ℕ) → x w ≡ true → (eqb v w || x w) ≡ true
+    there w e = or-right (eqb v w) (x w) e
+
     on : (eqb (r .head) v && x (r .tail)) ≡ true → t .flow ≡ r .flow
     on e =
         let parts = and-parts (eqb (r .head) v) (x (r .tail)) e in
-        h .flow (or-right (eqb v (r .tail)) (x (r .tail)) (parts .1)) (or-left (eqb v (r .head)) (x (r .head)) (eq-eqb v (r .head) (sym (eqb-true (r .head) v (parts .0)))))
+        h .flow (there (r .tail) (parts .1)) (here (r .head) (parts .0))
 
     back : (eqb (r .tail) v && x (r .head)) ≡ true → t .flow ≡ r .flow
     back e =
         let parts = and-parts (eqb (r .tail) v) (x (r .head)) e in
-        h .flow (or-left (eqb v (r .tail)) (x (r .tail)) (eq-eqb v (r .tail) (sym (eqb-true (r .tail) v (parts .0))))) (or-right (eqb v (r .head)) (x (r .head)) (parts .1))
+        h .flow (here (r .tail) (parts .0)) (there (r .head) (parts .1))
 
     same :
         (c d : Bool) → (c ≡ true → t .flow ≡ r .flow) → (d ≡ true → t .flow ≡ r .flow)
@@ -60,12 +66,22 @@ left-kept x v r t h =
     same false true e f = rw (f refl) refl
     same false false e f = refl
 
+-- a reach that was touched at v, and then while v is done
+touched-then :
+    (v : ℕ) (ws : List ℕ) (a b c : Reach) → Touched (among (v ∷ ws)) a b → Touched (among ws) b c → Touched (among ws) a c
+touched-then v ws a b c p q = record { alike = alike-then a b c (p .alike) (q .alike); flow = flow }
+  where
+    flow : among ws (a .tail) ≡ true → among ws (a .head) ≡ true → c .flow ≡ a .flow
+    flow t h =
+        q .flow (ap (among ws) (p .alike .tail) ∙ t) (ap (among ws) (p .alike .head) ∙ h)
+        ∙ p .flow (or-right (eqb v (a .tail)) (among ws (a .tail)) t) (or-right (eqb v (a .head)) (among ws (a .head)) h)
+
 module _ (s : Scheme) (gain : ℕ) (formed : WellFormed s) (lawful : Lawful s) where
   standing-first :
       (todo : List ℕ) → among todo (s .outlet) ≡ true → Standing s gain todo (s .reaches) (firstNeeds s gain)
   standing-first todo holds =
       record {
-        kept = each-self (Touched (among todo)) (λ r. record { alike = record { tail = refl; head = refl; limit = refl }; flow = λ t h. refl }) (s .reaches);
+        kept = each-self (Touched (among todo)) (untouched (among todo)) (s .reaches);
         within = lawful .within;
         conserved = λ w. omega arith;
         total = below-one (s .outlet) (λ w. gain) (s .points) (formed .outlet-point);
@@ -76,7 +92,9 @@ module _ (s : Scheme) (gain : ℕ) (formed : WellFormed s) (lawful : Lawful s) w
       (todo : List ℕ) (rs : List Reach) → Each (Touched (among todo)) (s .reaches) rs
       → All (λ r. (r .tail < s .points) × (r .head < s .points)) rs
   ends-inside todo rs kept =
-      each-all (Touched (among todo)) (Joined s) (λ r. (r .tail < s .points) × (r .head < s .points)) (λ r t h j. (rw (h .alike .tail) (j .tail-point), rw (h .alike .head) (j .head-point))) (s .reaches) rs kept (formed .joined)
+      each-all (Touched (among todo)) (Joined s) (λ r. (r .tail < s .points) × (r .head < s .points))
+      (λ r t h j. (rw (h .alike .tail) (j .tail-point), rw (h .alike .head) (j .head-point)))
+      (s .reaches) rs kept (formed .joined)
 
   standing-next :
       (v : ℕ) (ws : List ℕ) (rs : List Reach) (needs : Needs) → v < s .points → among ws v ≡ false
@@ -84,10 +102,12 @@ module _ (s : Scheme) (gain : ℕ) (formed : WellFormed s) (lawful : Lawful s) w
       → Standing s gain ws (pushedAll (among ws) v rs needs .0) (pushedAll (among ws) v rs needs .1)
   standing-next v ws rs needs point out enough now =
       let here = steps (among ws) (s .points) v rs needs out in
-      let left = each-same (Touched (among (v ∷ ws))) (leftTo (among ws) v) (leftTo (among ws) v) (left-kept (among ws) v) (s .reaches) rs (now .kept) in
+      let left : leftInto s (among ws) v ≡ sumBy (leftTo (among ws) v) rs = each-same (Touched (among (v ∷ ws))) _ _ (left-kept (among ws) v) (s .reaches) rs (now .kept) in
       let most = below-term needs (s .points) v point in
       record {
-        kept = each-then (Touched (among (v ∷ ws))) (Touched (among ws)) (Touched (among ws)) joined (s .reaches) rs (pushedAll (among ws) v rs needs .0) (now .kept) (here .touched);
+        kept =
+            each-then (Touched (among (v ∷ ws))) (Touched (among ws)) (Touched (among ws)) (touched-then v ws)
+            (s .reaches) rs (pushedAll (among ws) v rs needs .0) (now .kept) (here .touched);
         within = here .within (now .within);
         conserved = λ w. omega (arith, here .conserved w, now .conserved w);
         total = here .total point (ends-inside (v ∷ ws) rs (now .kept)) ∙ now .total;
@@ -95,13 +115,6 @@ module _ (s : Scheme) (gain : ℕ) (formed : WellFormed s) (lawful : Lawful s) w
             ⊎-elim (λ (e : v ≡ w). rw (← e) (omega (arith, here .drained, now .total)))
             (λ ne. here .others w far ne ∙ now .done w (or-from (eqb v w) (among ws w) (ne-eqb v w ne) far)) (cases-eq v w);
       }
-    where
-      joined : (a b c : Reach) → Touched (among (v ∷ ws)) a b → Touched (among ws) b c → Touched (among ws) a c
-      joined a b c p q =
-          record {
-            alike = record { tail = q .alike .tail ∙ p .alike .tail; head = q .alike .head ∙ p .alike .head; limit = q .alike .limit ∙ p .alike .limit };
-            flow = λ t h. q .flow (ap (among ws) (p .alike .tail) ∙ t) (ap (among ws) (p .alike .head) ∙ h) ∙ p .flow (or-right (eqb v (a .tail)) (among ws (a .tail)) t) (or-right (eqb v (a .head)) (among ws (a .head)) h);
-          }
 
   -- ---- from stage to stage
 
@@ -157,7 +170,10 @@ module _ (s : Scheme) (gain : ℕ) (formed : WellFormed s) (lawful : Lawful s) w
         };
         lawful = record { within = now .within; balanced = balanced };
         raised =
-            omega (arith, ints, now .conserved (s .inlet), supplied, unasked (s .inlet) (formed .apart), sub-is (outflow s (s .inlet)) (inflow s (s .inlet)), sub-is (outflow t (s .inlet)) (inflow t (s .inlet)));
+            let rise = now .conserved (s .inlet) in
+            let before = value-is s in
+            let after = value-is t in
+            omega (arith, ints, supplied, unasked (s .inlet) (formed .apart));
         supplied = supplied;
         satisfied = other;
       }
