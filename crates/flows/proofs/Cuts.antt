@@ -67,7 +67,7 @@ module _ (s : Scheme) (x : Points) (formed : WellFormed s) (lawful : Lawful s) (
   steady-point v l =
       ⊎-elim
       (λ (e : s .inlet ≡ v). rw (eq-eqb (s .inlet) v e, ← e, side .holds) (omega arith))
-      (λ ne.
+      (λ (ne : s .inlet ≡ v → ⊥).
       ⊎-elim
       (λ (yes : x v ≡ true).
       let inner : inflow s v ≡ outflow s v = lawful .balanced v l (λ e. ne (sym e)) (λ e. both-ways (x v) (ap x e ∙ side .lacks) yes) in

@@ -5,36 +5,26 @@ ghost use Rattle.flows.specs.OrderingLaws.{OrdersFitTheScheme, NoGainFindsTheL
 ghost use Rattle.flows.specs.RoundLaws.{EverySchemeHasAnOrdering};
 
 // Every lawful scheme has an ordering.
-pub fn every_scheme_has_an_ordering() -> bool
+pub fn every_scheme_has_an_ordering()
     ensures { λ _. ⌜ EverySchemeHasAnOrdering ⌝ }
-{
-    true
-}
+{}
 
 // An order starts with the inlet and holds points of the scheme, each once.
-pub fn orders_fit_the_scheme() -> bool
+pub fn orders_fit_the_scheme()
     ensures { λ _. ⌜ OrdersFitTheScheme ⌝ }
-{
-    true
-}
+{}
 
 // A point that is taken raises the keys by what is left from it.
-pub fn keys_grow_point_by_point() -> bool
+pub fn keys_grow_point_by_point()
     ensures { λ _. ⌜ KeysGrowPointByPoint ⌝ }
-{
-    true
-}
+{}
 
 // No key passes the inlet's start key, nor does the gain.
-pub fn keys_stay_within_the_start_key() -> bool
+pub fn keys_stay_within_the_start_key()
     ensures { λ _. ⌜ KeysStayWithin (2 ^ 40) ⌝ }
-{
-    true
-}
+{}
 
 // An ordering that gains 0 ends with the least side whose capacity is the value, which is then greatest.
-pub fn no_gain_finds_the_least_side() -> bool
+pub fn no_gain_finds_the_least_side()
     ensures { λ _. ⌜ NoGainFindsTheLeastSide ⌝ }
-{
-    true
-}
+{}
