@@ -10,8 +10,8 @@ use Rattle.scheme.specs.Scheme.{Scheme}
 use Rattle.flows.specs.Ordering.{among, leftInto, least, Next, Taken, Made}
 use Rattle.flows.specs.Ordering.Taken.{first, next}
 use Rattle.flows.specs.Ordering.Made.{arrives, stops}
-use Rattle.flows.proofs.Keys.{key-at-most-left, least-at-most}
-use Rattle.flows.proofs.Orders.{among-push, among-last, least-push}
+use Rattle.flows.proofs.Keys.{key-at-most-left}
+use Rattle.flows.proofs.Orders.{among-push, among-last, least-push, least-at-most}
 
 -- enough is left from the earlier points to each point after the inlet
 pub data Ready (s : Scheme) (gain : ℕ) : List ℕ → Type 0 where
@@ -44,7 +44,7 @@ module _ (s : Scheme) (gain : ℕ) where
   taken-ready : {ws ks : List ℕ} (k : ℕ) → Taken s ws ks → gain ≤ least ks k → Ready s gain (reverse ws)
   taken-ready k first h = start
   taken-ready k (next {ws = ws} {ks = ks} {v = v} {k = j} taken n above inner) h =
-      let split = least-push s ks j k in
+      let split = least-push ks j k in
       let most = least-at-most ks (min j k) in
       ready-next ws v j n (omega arith) (taken-ready (min j k) taken (omega arith))
 

@@ -40,7 +40,7 @@ come-along {s} formed lawful none =
     record { limits = same-limits-self s; lawful = lawful; gained = 0; raised = omega (arith, ints); each-gains = omega arith }
 come-along {s} formed lawful (more {t = t} {u = u} {order = order} {keys = keys} {gain = gain} round some rest) =
     let leaves = round-raises s t order keys gain formed lawful round in
-    let further = come-along (limits-formed s t (leaves .limits) formed) (leaves .lawful) rest in
+    let further = come-along (leaves .formed) (leaves .lawful) rest in
     record {
       limits = limits-then s t (leaves .limits) u (further .limits);
       lawful = further .lawful;
@@ -63,6 +63,7 @@ chains-bounded s t count formed lawful rounds =
     let come = come-along formed lawful rounds in
     record {
       limits = come .limits;
+      formed = limits-formed s t (come .limits) formed;
       lawful = come .lawful;
       gained = come .gained;
       raised = come .raised;

@@ -31,7 +31,8 @@ next-by-test s x v k test =
     let point = and-parts (ltb v (s .points)) (not (x v) && (eqb k (key s x v) && allBelow (noGreater s x k) (s .points))) test in
     let out = and-parts (not (x v)) (eqb k (key s x v) && allBelow (noGreater s x k) (s .points)) (point .1) in
     let is = and-parts (eqb k (key s x v)) (allBelow (noGreater s x k) (s .points)) (out .1) in
-    let each = decides-below-and (noGreater s x k) (λ w. noGreater s x k w ≡ true) (allBelow (noGreater s x k)) (λ w. (λ h. h, λ h. h)) refl (λ _. refl) (s .points) in
+    let p : ℕ → Bool = noGreater s x k in
+    let each = decides-below-and p (λ w. p w ≡ true) (allBelow p) (λ w. (λ h. h, λ h. h)) refl (λ _. refl) (s .points) in
     record {
       outside = (ltb-true v (s .points) (point .0), not-true (x v) (out .0));
       is = eqb-true k (key s x v) (is .0);

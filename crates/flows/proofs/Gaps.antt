@@ -19,13 +19,13 @@ use Rattle.flows.specs.Ordering.Taken.{first, next}
 use Rattle.flows.specs.Ordering.Made.{arrives, stops}
 use Rattle.flows.specs.Push.{push}
 use Rattle.flows.specs.PushLaws.{SameLimits}
-use Rattle.flows.specs.RoundLaws.{RoundRaisesTheValueByTheGain, GainsWithTheGap, RoundGainsWhileThereIsAGap, RoundsCloseTheGap}
+use Rattle.flows.specs.RoundLaws.{RoundLeaves, RoundRaisesTheValueByTheGain, GainsWithTheGap, RoundGainsWhileThereIsAGap, RoundsCloseTheGap}
 use Rattle.flows.proofs.Sums.{below-mono, below-plus, below-one, below-const}
 use Rattle.flows.proofs.Borders.{outsideOf, left-by-points}
 use Rattle.flows.proofs.Cuts.{relaid-gain}
 use Rattle.flows.proofs.Ends.{no-gain-least-side}
 use Rattle.flows.proofs.Keys.{left-at-most-key}
-use Rattle.flows.proofs.Limits.{same-limits-self, limits-greatest, greatest-once, greatest-most}
+use Rattle.flows.proofs.Limits.{same-limits-self, limits-formed, limits-greatest, greatest-once, greatest-most}
 use Rattle.flows.proofs.Orders.{taken-inlet, taken-lacks-outlet, least-push}
 use Rattle.flows.proofs.WholePush.{push-raises}
 
@@ -64,7 +64,7 @@ record Narrow (s : Scheme) (gain : ℕ) : Type 0 where
 narrow-taken : (s : Scheme) {ws ks : List ℕ} (k : ℕ) → Taken s ws ks → (least ks k ≡ k) ⊎ Narrow s (least ks k)
 narrow-taken s k first = inl refl
 narrow-taken s k (next {ws = ws} {ks = ks} {v = v} {k = j} taken n above inner) =
-    rw (least-push s ks j k)
+    rw (least-push ks j k)
     (⊎-elim
     (λ (e : least ks (min j k) ≡ min j k).
     ⊎-elim (λ (l : k < j). inl (omega arith))
@@ -129,25 +129,24 @@ part-of-gap : (m gain old new : ℕ) → old ≡ new + gain → old + gain ≤ (
 part-of-gap m gain old new falls most =
     omega (arith, add-mul m 2 gain, add-mul m 1 new, ap (λ k. m * k) falls, mul-add m new gain)
 
+round-leaves :
+    (s t : Scheme) (gain : ℕ) → WellFormed s → SameLimits s t → Lawful t → value t ≡ value s +ℤ pos gain → RoundLeaves s t gain
+round-leaves s t gain formed limits lawful raised =
+    record { limits = limits; formed = limits-formed s t limits formed; lawful = lawful; raised = raised }
+
 pub round-raises : RoundRaisesTheValueByTheGain
 round-raises s t order keys gain formed lawful round =
     ⊎-elim
     (λ (some : 0 < gain).
     let is = round .after ∙ cond-false (eqb gain 0) s (push s order gain) (ne-eqb gain 0 (omega arith)) in
     let pushed = push-raises s order keys gain formed lawful (round .made) some in
-    record {
-      limits = subst (SameLimits s) (sym is) (pushed .limits);
-      lawful = subst Lawful (sym is) (pushed .lawful);
-      raised = ap value is ∙ pushed .raised;
-    })
+    subst (λ u. RoundLeaves s u gain) (sym is)
+    (round-leaves s (push s order gain) gain formed (pushed .limits) (pushed .lawful) (pushed .raised)))
     (λ (end : gain ≤ 0).
     let zero : gain ≡ 0 = omega arith in
     let is = round .after ∙ cond-true (eqb gain 0) s (push s order gain) (eq-eqb gain 0 zero) in
-    record {
-      limits = subst (SameLimits s) (sym is) (same-limits-self s);
-      lawful = subst Lawful (sym is) lawful;
-      raised = ap value is ∙ omega (arith, ints, zero);
-    })
+    subst (λ u. RoundLeaves s u gain) (sym is)
+    (round-leaves s s gain formed (same-limits-self s) lawful (omega (arith, ints))))
     (cases-lt 0 gain)
 
 pub rounds-close : RoundsCloseTheGap (λ n. n - 1) (λ n. n - 2)

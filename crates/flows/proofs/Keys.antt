@@ -18,6 +18,7 @@ use Rattle.scheme.specs.Questions.{WellFormed, Joined}
 use Rattle.flows.specs.Ordering.{among, leftTo, leftInto, grown, key, withPoint, grownFrom, startKey, least, Made}
 use Rattle.flows.specs.Ordering.Made.{arrives, stops}
 use Rattle.flows.specs.OrderingLaws.{KeysGrowPointByPoint, KeysStayWithin}
+use Rattle.flows.proofs.Orders.{least-at-most}
 use Rattle.flows.proofs.Sums.{all-of, all-both, sumBy-same, sumBy-plus}
 
 module _ (s : Scheme) (x : Points) (v : ℕ) where
@@ -90,11 +91,7 @@ on-the-way s x u v count formed lawful out =
     let less = sumBy-take-le (leftTo (eqb u) v) (s .reaches) count in
     omega (arith, keys-grow s x u v out, from-any s (withPoint x u) v formed lawful)
 
--- the gain is the key of some point, or 0
-pub least-at-most : (ks : List ℕ) (k : ℕ) → least ks k ≤ k
-least-at-most [] k = omega arith
-least-at-most (j ∷ ks) k = omega (arith, least-at-most ks k)
-
+-- the gain is at most the outlet's key, or 0
 gain-within :
     (s : Scheme) {order keys : List ℕ} (gain : ℕ) → WellFormed s → Lawful s → Made s order keys gain → gain ≤ startKey
 gain-within s gain formed lawful (arrives {ws = ws} {ks = ks} {k = k} taken n above) =

@@ -1,14 +1,14 @@
 -- Orders as they are built, point by point.
-use mathlib.Core.Path.{_≡_, refl, sym, _∙_, ap}
+use mathlib.Core.Path.{_≡_, refl, sym, _∙_, ap, fun-ext}
 use mathlib.Core.List.{List, [], _∷_, _++_}
 use mathlib.Core.Bool.{true, false, _||_}
 use mathlib.Core.Logic.{⊎-elim, _≢_}
-use Prim.Native.Nat.{ℕ, _<_, min}
+use Prim.Native.Nat.{ℕ, _≤_, _<_, min}
 use native.Mathlib.Omega.{arith}
 use lib.Dec.{eqb}
 use Rattle.std.proofs.shelf.Tests.{or-cases, or-left, or-right, or-from, eqb-true, eq-eqb, ne-eqb}
 use Rattle.scheme.specs.Scheme.{Scheme}
-use Rattle.flows.specs.Ordering.{among, least, Taken}
+use Rattle.flows.specs.Ordering.{among, withPoint, least, Taken}
 use Rattle.flows.specs.Ordering.Taken.{first, next}
 
 -- the points after one more
@@ -29,6 +29,22 @@ pub among-push-cases :
 among-push-cases P ws v u h before here =
     ⊎-elim before (λ e. rw (← eqb-true v u e) here) (or-cases (among ws u) (eqb v u) (sym (among-push ws v u) ∙ h))
 
+pub among-with : (ws : List ℕ) (v : ℕ) → among (ws ++ v ∷ []) ≡ withPoint (among ws) v
+among-with ws v = fun-ext (among-push ws v)
+
+-- the least key, after one more
+pub least-push : (ks : List ℕ) (j k : ℕ) → least (ks ++ j ∷ []) k ≡ least ks (min j k)
+least-push [] j k = refl
+least-push (i ∷ ks) j k = ap (min i) (least-push ks j k)
+
+pub least-min : (ks : List ℕ) (j k : ℕ) → least ks (min j k) ≡ min (least ks j) k
+least-min [] j k = refl
+least-min (i ∷ ks) j k = omega (arith, least-min ks j k)
+
+pub least-at-most : (ks : List ℕ) (k : ℕ) → least ks k ≤ k
+least-at-most [] k = omega arith
+least-at-most (j ∷ ks) k = omega (arith, least-at-most ks k)
+
 module _ (s : Scheme) where
   pub taken-inlet : {ws ks : List ℕ} → Taken s ws ks → among ws (s .inlet) ≡ true
   taken-inlet first = or-left (eqb (s .inlet) (s .inlet)) false (eq-eqb (s .inlet) (s .inlet) refl)
@@ -40,10 +56,6 @@ module _ (s : Scheme) where
       among-push ws v (s .outlet) ∙ or-from (among ws (s .outlet)) (eqb v (s .outlet)) (taken-lacks-outlet apart taken) inner
 
   -- keys taken are above 0, so their least is
-  pub least-push : (ks : List ℕ) (j k : ℕ) → least (ks ++ j ∷ []) k ≡ least ks (min j k)
-  least-push [] j k = refl
-  least-push (i ∷ ks) j k = ap (min i) (least-push ks j k)
-
   pub least-above : {ws ks : List ℕ} (k : ℕ) → Taken s ws ks → 0 < k → 0 < least ks k
   least-above k first h = h
   least-above k (next {ks = ks} {k = j} taken n above inner) h =

@@ -13,7 +13,7 @@ use Rattle.scheme.specs.Questions.{WellFormed}
 use Rattle.flows.specs.Ordering.{among, key, least, Outside, Next, Taken, Made}
 use Rattle.flows.specs.Ordering.Taken.{first, next}
 use Rattle.flows.specs.Ordering.Made.{arrives, stops}
-use Rattle.flows.specs.RoundLaws.{HasOrdering, EverySchemeHasAnOrdering}
+use Rattle.flows.specs.OrderingLaws.{HasOrdering, EverySchemeHasAnOrdering}
 use Rattle.flows.proofs.Sums.{below-term}
 use Rattle.flows.proofs.Borders.{outsideOf}
 use Rattle.flows.proofs.Orders.{taken-lacks-outlet}
@@ -98,7 +98,9 @@ go-on s ws ks formed taken =
         ⊎-elim
         (λ (above : 0 < k).
         ⊎-elim
-        (λ (last : eqb v (s .outlet) ≡ true). inl (made s (ws ++ s .outlet ∷ []) (ks ++ k ∷ []) (least ks k) (arrives taken (rw (eqb-true v (s .outlet) last) at n) above)))
+        (λ (last : eqb v (s .outlet) ≡ true).
+        let end = arrives taken (rw (eqb-true v (s .outlet) last) at n) above in
+        inl (made s (ws ++ s .outlet ∷ []) (ks ++ k ∷ []) (least ks k) end))
         (λ (inner : eqb v (s .outlet) ≡ false). inr (record { point = v; its-key = k; outside = n .outside; taken = next taken n above inner }))
         (cases-bool (eqb v (s .outlet))))
         (λ (none : k ≤ 0). let zero : k ≡ 0 = omega arith in inl (made s ws ks 0 (stops taken (rw zero at n))))

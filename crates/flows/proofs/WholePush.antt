@@ -19,7 +19,7 @@ use Rattle.scheme.specs.Scheme.{Scheme, over}
 use Rattle.scheme.specs.Flow.{Points, Lawful, inflow, outflow}
 use Rattle.scheme.specs.Questions.{WellFormed, Joined}
 use Rattle.flows.specs.Ordering.{among, leftTo, leftInto}
-use Rattle.flows.specs.Push.{Needs, Stage, firstNeeds, pushedAll, pushBack, push, needsAfter}
+use Rattle.flows.specs.Push.{Needs, Stage, firstNeeds, pushedAll, pushBack, pushAlong, push, needsAfter}
 use Rattle.flows.specs.Push.Stage.{begins, goes-on}
 use Rattle.flows.specs.PushLaws.{Pushed, PushRaisesTheValueByTheGain, NeedsStayWithinTheGain}
 use Rattle.flows.proofs.Sums.{sumBelow, below-one, below-same, below-term, each-all, each-same, each-self, each-then, each-weaker}
@@ -207,6 +207,13 @@ module _ (s : Scheme) (gain : ℕ) (formed : WellFormed s) (lawful : Lawful s) w
       balanced : (v : ℕ) → v < s .points → v ≢ s .inlet → v ≢ s .outlet → inflow t v ≡ outflow t v
       balanced v l inner outer =
           omega (arith, now .conserved v, lawful .balanced v l inner outer, other v inner, unasked v outer)
+
+-- whatever stage a push has come to, the rest of it leads to the same end
+pub stage-pushes :
+    (s : Scheme) (order : List ℕ) (gain : ℕ) {todo : List ℕ} {rs : List Reach} {needs : Needs}
+    → Stage s order gain todo rs needs → pushBack todo rs needs ≡ pushAlong s order gain
+stage-pushes s order gain begins = refl
+stage-pushes s order gain (goes-on before) = stage-pushes s order gain before
 
 pub push-raises : PushRaisesTheValueByTheGain
 push-raises s order keys gain formed lawful made some =

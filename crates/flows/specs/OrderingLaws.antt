@@ -11,6 +11,16 @@ use Rattle.scheme.specs.Flow.{Points, Side, Lawful, Greatest, value, capacity}
 use Rattle.scheme.specs.Questions.{WellFormed}
 use Rattle.flows.specs.Ordering.{among, key, withPoint, grownFrom, startKey, Made}
 
+-- Every lawful scheme has an ordering.
+pub record HasOrdering (s : Scheme) : Type 0 where
+  pub order : List ℕ
+  pub keys : List ℕ
+  pub gain : ℕ
+  pub made : Made s order keys gain
+
+abbrev pub EverySchemeHasAnOrdering : Type 0
+EverySchemeHasAnOrdering = (s : Scheme) → WellFormed s → Lawful s → HasOrdering s
+
 -- Taking a point raises every key by what is left from that point, reach by reach.
 abbrev pub KeysGrowPointByPoint : Type 0
 KeysGrowPointByPoint =
@@ -42,8 +52,8 @@ abbrev pub OrdersFitTheScheme : Type 0
 OrdersFitTheScheme =
     (s : Scheme) (order keys : List ℕ) (gain : ℕ) → WellFormed s → Made s order keys gain → OrderFits s order keys
 
--- the points of an order that are a side, at its capacity the value is greatest, and no side of that capacity
--- lacks one of them: it is the least such side
+-- The points of an order are a side. Its capacity is the value, which is the greatest; and no side of that
+-- capacity lacks one of its points, so that it is the least such side.
 pub record LeastSide (s : Scheme) (order : List ℕ) : Type 0 where
   pub side : Side s (among order)
   pub meets : value s ≡ pos (capacity s (among order))
@@ -51,7 +61,7 @@ pub record LeastSide (s : Scheme) (order : List ℕ) : Type 0 where
   pub least :
       (y : Points) → Side s y → capacity s y ≡ capacity s (among order) → (v : ℕ) → among order v ≡ true → y v ≡ true
 
--- An ordering that gains 0 ends with that side.
+-- An ordering that gains 0 ends with such a side.
 abbrev pub NoGainFindsTheLeastSide : Type 0
 NoGainFindsTheLeastSide =
     (s : Scheme) (order keys : List ℕ) → WellFormed s → Lawful s → Made s order keys 0 → LeastSide s order

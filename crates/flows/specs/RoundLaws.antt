@@ -11,17 +11,7 @@ use Rattle.flows.specs.Ordering.{Made}
 use Rattle.flows.specs.PushLaws.{SameLimits}
 use Rattle.flows.specs.Round.{Round, Rounds, Settled}
 
--- Every lawful scheme has an ordering,
-pub record HasOrdering (s : Scheme) : Type 0 where
-  pub order : List ℕ
-  pub keys : List ℕ
-  pub gain : ℕ
-  pub made : Made s order keys gain
-
-abbrev pub EverySchemeHasAnOrdering : Type 0
-EverySchemeHasAnOrdering = (s : Scheme) → WellFormed s → Lawful s → HasOrdering s
-
--- and exactly one gap.
+-- Every lawful scheme has exactly one gap.
 pub record OneGap (s : Scheme) : Type 0 where
   pub gap : ℕ
   pub is : Gap s gap
@@ -33,6 +23,7 @@ EverySchemeHasOneGap = (s : Scheme) → WellFormed s → Lawful s → OneGap s
 -- A round, whether it gains or not, leaves a lawful flow under the same limits, with a value higher by the gain.
 pub record RoundLeaves (s t : Scheme) (gain : ℕ) : Type 0 where
   pub limits : SameLimits s t
+  pub formed : WellFormed t
   pub lawful : Lawful t
   pub raised : value t ≡ value s +ℤ pos gain
 
@@ -67,6 +58,7 @@ RoundsCloseTheGap after before =
 -- litres, nor than are left out of any side: so every chain ends.
 pub record Chain (s t : Scheme) (count : ℕ) : Type 0 where
   pub limits : SameLimits s t
+  pub formed : WellFormed t
   pub lawful : Lawful t
   pub gained : ℕ
   pub raised : value t ≡ value s +ℤ pos gained

@@ -1,8 +1,7 @@
 // What an ordering says of keys, sides and the gap.
 ghost use Prim.Native.Nat.{_^_};
-ghost use Rattle.flows.specs.OrderingLaws.{KeysGrowPointByPoint, KeysStayWithin};
-ghost use Rattle.flows.specs.OrderingLaws.{OrdersFitTheScheme, NoGainFindsTheLeastSide};
-ghost use Rattle.flows.specs.RoundLaws.{EverySchemeHasAnOrdering};
+ghost use Rattle.flows.specs.OrderingLaws.{EverySchemeHasAnOrdering, OrdersFitTheScheme};
+ghost use Rattle.flows.specs.OrderingLaws.{KeysGrowPointByPoint, KeysStayWithin, NoGainFindsTheLeastSide};
 
 // Every lawful scheme has an ordering.
 pub fn every_scheme_has_an_ordering()
