@@ -1,0 +1,5 @@
+use Rattle.flows.proofs.Cuts.{value-crosses}
+use Rattle.flows.proofs.sides.value_crosses_each_side.Needs as need
+
+pub returns : need.returns
+returns c = value-crosses
