@@ -31,10 +31,19 @@ pub fn side_text(heap: Global, marks: &[u8]) -> Result<String, AllocError>
 }
 
 // The lines of a claim whose side is spelled out.
-fn claim_text(heap: Global, points: u16, reaches: usize, value: i64, side: &str) -> Result<String, AllocError>
+fn claim_text(
+    heap: Global,
+    points: u16,
+    reaches: usize,
+    value: i64,
+    side: &str,
+) -> Result<String, AllocError>
     ensures { λ r. ⌜ made r (λ text. string-bytes text ≡ spelledLines points reaches value (now (side .entry))) ⌝ }
 {
-    format!(heap, "points {points}\nreaches {reaches}\nvalue {value}\nside{side}\naccepted")
+    format!(
+        heap,
+        "points {points}\nreaches {reaches}\nvalue {value}\nside{side}\naccepted"
+    )
 }
 
 impl Claim {

@@ -11,9 +11,9 @@ use Rattle.scheme.specs.declared.rows.Reach.{Reach}
 use Rattle.scheme.specs.Scheme.{Scheme}
 use Rattle.scheme.specs.Flow.{Points, leaves, leftOn, leftBack}
 use Rattle.scheme.specs.Questions.{WellFormed}
-use Rattle.flows.specs.Crossings.{enters, leftAcross, leftOut}
+use Rattle.scheme.specs.Crossings.{enters, leftAcross, leftOut}
 use Rattle.flows.specs.Ordering.{leftTo, leftInto}
-use Rattle.flows.proofs.Sums.{all-of, sumBy-mono, sumBy-same, sumBy-when, sumBelow, below-plus, below-one, below-same, exchange}
+use Rattle.scheme.proofs.SumLaws.{all-of, sumBy-mono, sumBy-same, sumBy-when, sumBelow, below-plus, below-one, below-same, exchange}
 
 -- what of f is for the points outside x
 abbrev pub outsideOf : Points → (ℕ → ℕ) → ℕ → ℕ

@@ -12,15 +12,15 @@ use Rattle.std.proofs.shelf.Tests.{cases-lt, eq-eqb, ne-eqb, cond-false, or-lef
 use Rattle.scheme.specs.Scheme.{Scheme}
 use Rattle.scheme.specs.Flow.{Points, Side, Lawful, Greatest, Gap, value}
 use Rattle.scheme.specs.Questions.{WellFormed}
-use Rattle.flows.specs.Crossings.{leftOut}
+use Rattle.scheme.specs.Crossings.{leftOut}
 use Rattle.flows.specs.Ordering.{among, Made}
 use Rattle.flows.specs.Push.{push}
 use Rattle.flows.specs.PushLaws.{SameLimits}
 use Rattle.flows.specs.Round.{Round, Rounds}
 use Rattle.flows.specs.Round.Rounds.{none, more}
 use Rattle.flows.specs.RoundLaws.{EverySchemeHasOneGap, ChainsAreBounded, CanSettle, EverySchemeSettles, SettledIsGreatest}
-use Rattle.flows.proofs.Signs.{value-is}
-use Rattle.flows.proofs.Cuts.{left-completes}
+use Rattle.scheme.proofs.Signs.{value-is}
+use Rattle.scheme.proofs.Cuts.{left-completes}
 use Rattle.flows.proofs.Ends.{no-gain-least-side}
 use Rattle.flows.proofs.Gaps.{gap-is, round-raises}
 use Rattle.flows.proofs.Limits.{same-limits-self, limits-then, limits-formed, limits-side, limits-capacity, limits-greatest, greatest-once, greatest-most}

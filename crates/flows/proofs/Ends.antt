@@ -11,14 +11,14 @@ use Rattle.std.proofs.shelf.Signed.{ints}
 use Rattle.scheme.specs.Scheme.{Scheme}
 use Rattle.scheme.specs.Flow.{Points, Side, Lawful, value, capacity}
 use Rattle.scheme.specs.Questions.{WellFormed}
-use Rattle.flows.specs.Crossings.{leftOut}
+use Rattle.scheme.specs.Crossings.{leftOut}
 use Rattle.flows.specs.Ordering.{among, leftInto, least, Next, Taken, Made}
 use Rattle.flows.specs.Ordering.Taken.{first, next}
 use Rattle.flows.specs.Ordering.Made.{arrives, stops}
 use Rattle.flows.specs.OrderingLaws.{LeastSide, NoGainFindsTheLeastSide}
-use Rattle.flows.proofs.Sums.{below-same, below-none}
-use Rattle.flows.proofs.Signs.{value-is}
-use Rattle.flows.proofs.Cuts.{left-completes, meet-best}
+use Rattle.scheme.proofs.SumLaws.{below-same, below-none}
+use Rattle.scheme.proofs.Signs.{value-is}
+use Rattle.scheme.proofs.Cuts.{left-completes, meet-best}
 use Rattle.flows.proofs.Borders.{outsideOf, left-by-points, left-within}
 use Rattle.flows.proofs.Keys.{key-at-most-left, no-key-nothing-left}
 use Rattle.flows.proofs.Orders.{among-push-cases, taken-inlet, taken-lacks-outlet, least-above}

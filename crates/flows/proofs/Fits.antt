@@ -16,7 +16,7 @@ use Rattle.flows.specs.Ordering.{among, Outside, Taken, Made}
 use Rattle.flows.specs.Ordering.Taken.{first, next}
 use Rattle.flows.specs.Ordering.Made.{arrives, stops}
 use Rattle.flows.specs.OrderingLaws.{OrdersFitTheScheme}
-use Rattle.flows.proofs.Sums.{sumBelow, below-mono, below-plus, below-one, below-const}
+use Rattle.scheme.proofs.SumLaws.{sumBelow, below-mono, below-plus, below-one, below-const}
 use Rattle.flows.proofs.Borders.{outsideOf}
 use Rattle.flows.proofs.Orders.{among-push, among-push-cases}
 

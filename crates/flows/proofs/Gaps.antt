@@ -13,16 +13,16 @@ use Rattle.std.proofs.shelf.Tests.{cases-bool, cases-lt, both-ways, eq-eqb, ne-
 use Rattle.scheme.specs.Scheme.{Scheme}
 use Rattle.scheme.specs.Flow.{Points, Side, Lawful, Gap, value}
 use Rattle.scheme.specs.Questions.{WellFormed}
-use Rattle.flows.specs.Crossings.{leftOut}
+use Rattle.scheme.specs.Crossings.{leftOut}
 use Rattle.flows.specs.Ordering.{among, leftInto, least, Next, Taken, Made}
 use Rattle.flows.specs.Ordering.Taken.{first, next}
 use Rattle.flows.specs.Ordering.Made.{arrives, stops}
 use Rattle.flows.specs.Push.{push}
 use Rattle.flows.specs.PushLaws.{SameLimits}
 use Rattle.flows.specs.RoundLaws.{RoundLeaves, RoundRaisesTheValueByTheGain, GainsWithTheGap, RoundGainsWhileThereIsAGap, RoundsCloseTheGap}
-use Rattle.flows.proofs.Sums.{below-mono, below-plus, below-one, below-const}
+use Rattle.scheme.proofs.SumLaws.{below-mono, below-plus, below-one, below-const}
 use Rattle.flows.proofs.Borders.{outsideOf, left-by-points}
-use Rattle.flows.proofs.Cuts.{relaid-gain}
+use Rattle.scheme.proofs.Cuts.{relaid-gain}
 use Rattle.flows.proofs.Ends.{no-gain-least-side}
 use Rattle.flows.proofs.Keys.{left-at-most-key}
 use Rattle.flows.proofs.Limits.{same-limits-self, limits-formed, limits-greatest, greatest-once, greatest-most}

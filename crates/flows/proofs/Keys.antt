@@ -19,7 +19,7 @@ use Rattle.flows.specs.Ordering.{among, leftTo, leftInto, grown, key, withPoin
 use Rattle.flows.specs.Ordering.Made.{arrives, stops}
 use Rattle.flows.specs.OrderingLaws.{KeysGrowPointByPoint, KeysStayWithin}
 use Rattle.flows.proofs.Orders.{least-at-most}
-use Rattle.flows.proofs.Sums.{all-of, all-both, sumBy-same, sumBy-plus}
+use Rattle.scheme.proofs.SumLaws.{all-of, all-both, sumBy-same, sumBy-plus}
 
 module _ (s : Scheme) (x : Points) (v : ℕ) where
   pub key-at-most-left : key s x v ≤ leftInto s x v

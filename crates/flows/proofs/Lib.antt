@@ -1,8 +1,3 @@
-pub mod Sums
-pub mod Signs
-pub mod Relaid
-pub mod Cuts
-pub mod Reviews
 pub mod Borders
 pub mod Keys
 pub mod Orders

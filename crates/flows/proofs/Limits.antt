@@ -13,8 +13,8 @@ use Rattle.scheme.specs.Scheme.{Scheme, over, withFlows, flowsOver}
 use Rattle.scheme.specs.Flow.{Points, Side, Lawful, Greatest, value, capacity}
 use Rattle.scheme.specs.Questions.{WellFormed}
 use Rattle.flows.specs.PushLaws.{SameLimits}
-use Rattle.flows.proofs.Relaid.{Alike, alike-relaid, relaid-over-alike, formed-alike, side-alike, capacity-alike, flowList}
-use Rattle.flows.proofs.Cuts.{present-flow}
+use Rattle.scheme.proofs.Relaid.{Alike, alike-relaid, relaid-over-alike, formed-alike, side-alike, capacity-alike, flowList}
+use Rattle.scheme.proofs.Cuts.{present-flow}
 
 pub same-limits-self : (s : Scheme) → SameLimits s s
 same-limits-self s =

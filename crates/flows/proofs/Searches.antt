@@ -14,7 +14,7 @@ use Rattle.flows.specs.Ordering.{among, key, least, Outside, Next, Taken, Made
 use Rattle.flows.specs.Ordering.Taken.{first, next}
 use Rattle.flows.specs.Ordering.Made.{arrives, stops}
 use Rattle.flows.specs.OrderingLaws.{HasOrdering, EverySchemeHasAnOrdering}
-use Rattle.flows.proofs.Sums.{below-term}
+use Rattle.scheme.proofs.SumLaws.{below-term}
 use Rattle.flows.proofs.Borders.{outsideOf}
 use Rattle.flows.proofs.Orders.{taken-lacks-outlet}
 use Rattle.flows.proofs.Fits.{outsiders, fewer}

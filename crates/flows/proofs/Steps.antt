@@ -16,8 +16,8 @@ use Rattle.scheme.specs.Scheme.{flowing}
 use Rattle.scheme.specs.Flow.{Points, leftOn, leftBack}
 use Rattle.flows.specs.Ordering.{leftTo}
 use Rattle.flows.specs.Push.{Needs, moved, pushed, pushedAll}
-use Rattle.flows.proofs.Sums.{sumBelow, below-balance, below-one}
-use Rattle.flows.proofs.Relaid.{Alike, alike-same, alike-flowing}
+use Rattle.scheme.proofs.SumLaws.{sumBelow, below-balance, below-one}
+use Rattle.scheme.proofs.Relaid.{Alike, alike-same, alike-flowing}
 
 -- what a reach sends out of a point, and into it
 abbrev pub sends : ℕ → Reach → ℕ

@@ -22,9 +22,9 @@ use Rattle.flows.specs.Ordering.{among, leftTo, leftInto}
 use Rattle.flows.specs.Push.{Needs, Stage, firstNeeds, pushedAll, pushBack, pushAlong, push, needsAfter}
 use Rattle.flows.specs.Push.Stage.{begins, goes-on}
 use Rattle.flows.specs.PushLaws.{Pushed, PushRaisesTheValueByTheGain, NeedsStayWithinTheGain}
-use Rattle.flows.proofs.Sums.{sumBelow, below-one, below-same, below-term, each-all, each-same, each-self, each-then, each-weaker}
-use Rattle.flows.proofs.Signs.{value-is}
-use Rattle.flows.proofs.Relaid.{Alike, alike-then, flowList, relaid-alike}
+use Rattle.scheme.proofs.SumLaws.{sumBelow, below-one, below-same, below-term, each-all, each-same, each-self, each-then, each-weaker}
+use Rattle.scheme.proofs.Signs.{value-is}
+use Rattle.scheme.proofs.Relaid.{Alike, alike-then, flowList, relaid-alike}
 use Rattle.flows.proofs.Backwards.{Ready, made-ready, made-outlet}
 use Rattle.flows.proofs.Backwards.Ready.{start, more}
 use Rattle.flows.proofs.Steps.{Touched, untouched, steps, sends, brings}

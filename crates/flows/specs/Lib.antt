@@ -1,8 +1,6 @@
-pub mod Crossings
 pub mod Ordering
 pub mod Push
 pub mod Round
-pub mod SideLaws
 pub mod OrderingLaws
 pub mod PushLaws
 pub mod RoundLaws

@@ -6,7 +6,7 @@ use lib.IntN.{pos, _+ℤ_}
 use Rattle.scheme.specs.Scheme.{Scheme}
 use Rattle.scheme.specs.Flow.{Points, Side, Lawful, Greatest, Gap, value}
 use Rattle.scheme.specs.Questions.{WellFormed}
-use Rattle.flows.specs.Crossings.{leftOut}
+use Rattle.scheme.specs.Crossings.{leftOut}
 use Rattle.flows.specs.Ordering.{Made}
 use Rattle.flows.specs.PushLaws.{SameLimits}
 use Rattle.flows.specs.Round.{Round, Rounds, Settled}

@@ -1,6 +1,6 @@
 // What sides say of flows.
-ghost use Rattle.flows.specs.SideLaws.{ValueCrossesEachSide, NoValueExceedsASide};
-ghost use Rattle.flows.specs.SideLaws.{FlowAndSideThatMeetAreBest, AcceptedReviewMeansGreatest, NoFlowGainsMoreThanIsLeft};
+ghost use Rattle.scheme.specs.SideLaws.{ValueCrossesEachSide, NoValueExceedsASide};
+ghost use Rattle.scheme.specs.SideLaws.{FlowAndSideThatMeetAreBest, AcceptedReviewMeansGreatest, NoFlowGainsMoreThanIsLeft};
 
 // The value of a lawful flow is what leaves any side less what enters it.
 pub fn value_crosses_each_side()

@@ -41,7 +41,8 @@ fn side_of_arguments(rt: &LibcRuntime) -> Result<Vec<u16>, AnyError> {
     for word in env::args(rt)?.skip(1) {
         match word.as_str().parse::<u16>() {
             Ok(point) => side.push(point)?,
-            Err(_) => return Err("usage: review POINT.. < FILE, each point a number from 0 to 65535".into()),
+            Err(_) =>
+                return Err("usage: review POINT.. < FILE, each point a number from 0 to 65535".into()),
         }
     }
     Ok(side)

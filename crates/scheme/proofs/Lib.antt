@@ -4,3 +4,8 @@ pub mod Writes
 pub mod Asked
 pub mod Totals
 pub mod Sides
+pub mod SumLaws
+pub mod Signs
+pub mod Relaid
+pub mod Cuts
+pub mod Reviews

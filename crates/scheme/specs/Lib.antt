@@ -5,3 +5,5 @@ pub mod Questions
 pub mod Marks
 pub mod Tables
 pub mod Words
+pub mod Crossings
+pub mod SideLaws

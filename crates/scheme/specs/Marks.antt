@@ -6,13 +6,14 @@ use Prim.Native.Nat.{ℕ, _≤_}
 use lib.ListN.{length, getD}
 use lib.Dec.{leb, eqb}
 use lib.IntN.{ℤ, pos, negsuc}
+use Rattle.std.specs.Orderings.{Decides}
 use Rattle.std.specs.shelf.Lists.{All}
 use Rattle.std.specs.declared.option.Option.the-variants.{Some, None}
 use Rattle.scheme.specs.declared.faults.Layer.the-variants.{Call}
 use Rattle.scheme.specs.Scheme.{Scheme}
-use Rattle.scheme.specs.Flow.{Points, Side, value, capacity}
+use Rattle.scheme.specs.Flow.{Points, Side, Lawful, value, capacity}
 use Rattle.scheme.specs.Refusals.{refused}
-use Rattle.scheme.specs.Questions.{Question, bookQuestions}
+use Rattle.scheme.specs.Questions.{Question, bookQuestions, WellFormed}
 
 -- the points that are marked with 1
 abbrev pub marked : List ℕ → Points
@@ -57,3 +58,9 @@ sideQuestions s marks = askSide s marks ∷ askCapacity s marks ∷ []
 
 abbrev pub checkQuestions : Scheme → List ℕ → List Question
 checkQuestions s marks = bookQuestions s ++ sideQuestions s marks
+
+-- On a well-formed register, a list of marks that is a side is accepted exactly if the flow is lawful and the side's
+-- capacity is its value.
+abbrev pub ReviewDecides : Scheme → List ℕ → Bool → Type 0
+ReviewDecides s marks accepted =
+    WellFormed s → MarksSide s marks → Decides accepted (Lawful s × (value s ≡ pos (capacity s (marked marks))))

@@ -1,16 +1,14 @@
 // The review of a published side: is the flow lawful, and does the side prove it greatest?
 ghost use mathlib.Core.Path.{_≡_};
-ghost use mathlib.Core.Bool.{not, _&&_, _||_};
-ghost use Prim.Native.Nat.{_+_, _<_, _≤_};
-ghost use lib.Dec.{ltb, leb, eqb};
-ghost use lib.IntN.{pos};
-ghost use lib.ListN.{length, getD};
-ghost use Rattle.std.specs.Orderings.{Decides};
+ghost use mathlib.Core.Bool.{true};
+ghost use Prim.Native.Nat.{_<_, _≤_};
+ghost use lib.ListN.{length};
 ghost use Rattle.std.specs.Results.{isOk};
 ghost use Rattle.std.specs.Vec.{made};
-ghost use Rattle.scheme.specs.Flow.{Lawful, value, capacity};
-ghost use Rattle.scheme.specs.Marks.{marked, sided, fitting, tight, MarksSide, checkQuestions};
-ghost use Rattle.scheme.specs.Questions.{firstNo, bookQuestions, WellFormed};
+ghost use Rattle.scheme.specs.Flow.{value};
+ghost use Rattle.scheme.specs.Marks.{marked, sided, fitting, tight, ReviewDecides, checkQuestions};
+ghost use Rattle.scheme.specs.Questions.{firstNo, bookQuestions};
+ghost use Rattle.scheme.specs.SideLaws.{Meet};
 ghost use Rattle.scheme.specs.Refusals.{callRefusal, refusalOf};
 use crate::faults::CallFault;
 use crate::faults::CallFaultFromBook;
@@ -30,7 +28,8 @@ pub fn value_of<R: Register>(register: &R) -> Result<i64, CallFault>
 // Reviews a list of marks, one for each point: 1 for a point of the side, 0 for any other.
 pub fn check<R: Register>(register: &R, marks: &[u8]) -> Result<(), CallFault>
     ensures answer { λ r. ⌜ refusalOf callRefusal r ≡ firstNo (checkQuestions (scheme (now (register .entry))) (now (marks .entry))) ⌝ }
-    ensures law { λ r. ⌜ (WellFormed (scheme (now (register .entry))) → MarksSide (scheme (now (register .entry))) (now (marks .entry)) → Decides (isOk r) (Lawful (scheme (now (register .entry))) × (value (scheme (now (register .entry))) ≡ pos (capacity (scheme (now (register .entry))) (marked (now (marks .entry))))))) ⌝ }
+    ensures law { λ r. ⌜ ReviewDecides (scheme (now (register .entry))) (now (marks .entry)) (isOk r) ⌝ }
+    ensures greatest { λ r. ⌜ (isOk r ≡ true → Meet (scheme (now (register .entry))) (marked (now (marks .entry)))) ⌝ }
 {
     ask_book(register)?;
     if !is_side(register, marks) {

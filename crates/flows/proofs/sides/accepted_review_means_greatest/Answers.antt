@@ -1,4 +1,4 @@
-use Rattle.flows.proofs.Reviews.{accepted-best}
+use Rattle.scheme.proofs.Reviews.{accepted-best}
 use Rattle.flows.proofs.sides.accepted_review_means_greatest.Needs as need
 
 pub returns : need.returns

@@ -7,11 +7,11 @@ use native.Mathlib.Omega.{arith}
 use lib.ListN.{length}
 use Rattle.std.specs.shelf.Lists.{Each}
 use Rattle.std.proofs.shelf.Elements.{length-each}
 use Rattle.scheme.specs.declared.rows.Reach.{Reach}
 use Rattle.scheme.specs.Scheme.{Scheme, flowing, flowsOver, over}
 use Rattle.scheme.specs.Flow.{Points, Side, capacity, leaves}
 use Rattle.scheme.specs.Questions.{WellFormed, Joined}
-use Rattle.flows.proofs.Sums.{each-all, each-same}
+use Rattle.scheme.proofs.SumLaws.{each-all, each-same}
 
 -- two reaches that differ in their flows at most
 pub record Alike (r t : Reach) : Type 0 where

@@ -5,12 +5,12 @@ use Prim.Native.Nat.{ℕ, _≤_}
 use lib.ListN.{length}
 use lib.IntN.{pos, subℕ, _+ℤ_}
 use lib.Signed.{_≤ℤ_}
 use Rattle.scheme.specs.Scheme.{Scheme, withFlows}
 use Rattle.scheme.specs.Flow.{Points, Side, Lawful, Greatest, value, capacity}
 use Rattle.std.specs.declared.option.Option.the-variants.{None}
 use Rattle.scheme.specs.Marks.{marked, checkQuestions}
 use Rattle.scheme.specs.Questions.{WellFormed, firstNo}
-use Rattle.flows.specs.Crossings.{flowOut, flowIn, leftOut}
+use Rattle.scheme.specs.Crossings.{flowOut, flowIn, leftOut}
 
 -- The value is what leaves any side less what enters it.
 abbrev pub ValueCrossesEachSide : Type 0

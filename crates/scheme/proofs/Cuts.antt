@@ -13,15 +13,15 @@ use Rattle.std.proofs.shelf.Lists.{length-map}
 use Rattle.std.proofs.shelf.Signed.{ints}
 use Rattle.std.proofs.shelf.Elements.{all-weaker}
 use Rattle.std.proofs.shelf.Tests.{cases-bool, cases-eq, eq-eqb, ne-eqb, both-ways}
 use Rattle.scheme.specs.declared.rows.Reach.{Reach}
 use Rattle.scheme.specs.Scheme.{Scheme, over, withFlows, flowsOver}
 use Rattle.scheme.specs.Flow.{Points, Side, Lawful, Greatest, inflow, outflow, value, capacity, leaves}
 use Rattle.scheme.specs.Questions.{WellFormed}
-use Rattle.flows.specs.Crossings.{enters, flowOut, flowIn, leftOut}
-use Rattle.flows.specs.SideLaws.{ValueCrossesEachSide, NoValueExceedsASide, NoFlowGainsMoreThanIsLeft, FlowAndSideThatMeetAreBest}
-use Rattle.flows.proofs.Sums.{all-of, sumBy-mono, sumBy-balance, sumBy-when, sumBy-same, sumBelow, below-balance, below-one, below-same, exchange}
-use Rattle.flows.proofs.Signs.{same-differences, difference-at-most, value-is}
-use Rattle.flows.proofs.Relaid.{alike-self, alike-relaid, relaid-alike, formed-alike, side-alike, capacity-alike, flowList}
+use Rattle.scheme.specs.Crossings.{enters, flowOut, flowIn, leftOut}
+use Rattle.scheme.specs.SideLaws.{ValueCrossesEachSide, NoValueExceedsASide, NoFlowGainsMoreThanIsLeft, FlowAndSideThatMeetAreBest}
+use Rattle.scheme.proofs.SumLaws.{all-of, sumBy-mono, sumBy-balance, sumBy-when, sumBy-same, sumBelow, below-balance, below-one, below-same, exchange}
+use Rattle.scheme.proofs.Signs.{same-differences, difference-at-most, value-is}
+use Rattle.scheme.proofs.Relaid.{alike-self, alike-relaid, relaid-alike, formed-alike, side-alike, capacity-alike, flowList}
 
 -- what a set of points passes through one end of each reach, summed by points and by reaches
 by-ends :
