@@ -8,3 +8,6 @@ pub use marks::marks_of;
 pub use reviewing::Claim;
 pub use reviewing::Stop;
 pub use reviewing::review;
+
+#[cfg(test)]
+mod tests;
