@@ -8,6 +8,8 @@ ghost use Rattle.scheme_file.specs.Layout.{Means, NoFile};
 ghost use Rattle.scheme_file.specs.Files.{Accepted, fileBytes, fileScheme};
 use crate::files::SchemeFile;
 use crate::numbers::get_u32;
+use crate::parts::HEADER;
+use crate::parts::ROW_SIZE;
 use crate::reading::row_block;
 use scheme::BookFault;
 use scheme::FileFault;
@@ -21,8 +23,8 @@ impl<'a> SchemeFile<'a> {
         ensures means { λ r. ⌜ Cases r (λ f. Means (now (bytes .entry)) (fileScheme f)) (λ _. NoFile (now (bytes .entry))) ⌝ }
     {
         let block = row_block(bytes)?;
-        let count = get_u32(bytes, block) / 12;
-        let rows = (block + 6) as u32;
+        let count = get_u32(bytes, block) / ROW_SIZE as u32;
+        let rows = (block + HEADER) as u32;
         Ok(SchemeFile { bytes, rows, count })
     }
 
