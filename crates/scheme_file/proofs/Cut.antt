@@ -80,7 +80,7 @@ module _ (bs : List ℕ) (bytes : Bytes bs) where
       ∙ ap (λ l. two (twoAt bs p) ++ (two (twoAt bs (p + 2)) ++ l)) (four-here (p + 4) (p + 8) (omega arith) (omega arith))
       ∙ ap (λ l. two (twoAt bs p) ++ (two (twoAt bs (p + 2)) ++ (four (fourAt bs (p + 4)) ++ l))) (four-here (p + 8) e (omega arith) within)
 
-  rows-from : (q a n e : ℕ) → e ≡ q + 12 * (a + n) → e ≤ length bs → drop (q + 12 * a) bs ≡ joined rowBytes (map (λ k. rowAt bs (rowPlace q k)) (counting a n)) ++ drop e bs
+  pub rows-from : (q a n e : ℕ) → e ≡ q + 12 * (a + n) → e ≤ length bs → drop (q + 12 * a) bs ≡ joined rowBytes (map (λ k. rowAt bs (rowPlace q k)) (counting a n)) ++ drop e bs
   rows-from q a zero e end within = ap (λ i. drop i bs) (omega arith)
   rows-from q a (suc n) e end within =
       row-here (q + 12 * a) (q + 12 * (a + 1)) (omega arith) (omega arith)
@@ -101,7 +101,7 @@ module _ (bs : List ℕ) (bytes : Bytes bs) where
       )
 
   -- a record whose length, kind and body stand at a place is laid there
-  record-here : (at : ℕ) (r : FileRecord) → endAt bs at ≤ length bs → kindAt bs at ≡ kindOf r → lengthAt bs at ≡ length (bodyOf r) → drop (at + 6) bs ≡ bodyOf r ++ drop (endAt bs at) bs → drop at bs ≡ recordBytes r ++ drop (endAt bs at) bs
+  pub record-here : (at : ℕ) (r : FileRecord) → endAt bs at ≤ length bs → kindAt bs at ≡ kindOf r → lengthAt bs at ≡ length (bodyOf r) → drop (at + 6) bs ≡ bodyOf r ++ drop (endAt bs at) bs → drop at bs ≡ recordBytes r ++ drop (endAt bs at) bs
   record-here at r within kind size body =
       four-here at (at + 4) refl (omega arith)
       ∙ ap (λ l. four (fourAt bs at) ++ l) (two-here (at + 4) (at + 6) (omega arith) (omega arith))
@@ -127,12 +127,16 @@ module _ (bs : List ℕ) (bytes : Bytes bs) where
       (sym size ∙ sym (length-rows-bytes (rowsAt bs (at + 6) n) ∙ ap (λ m. 12 * m) (length-rows bs (at + 6) n)))
       (ap (λ i. drop i bs) (omega arith) ∙ rows-from (at + 6) 0 n (endAt bs at) (omega arith) within)
 
+  pub head-at : (at points inlet outlet : ℕ) → endAt bs at ≤ length bs → kindAt bs at ≡ 1 → lengthAt bs at ≡ 6 → points ≡ twoAt bs (at + 6) → inlet ≡ twoAt bs (at + 6 + 2) → outlet ≡ twoAt bs (at + 6 + 4) → drop at bs ≡ recordBytes (head points inlet outlet) ++ drop (endAt bs at) bs
+  head-at at points inlet outlet within kind size en es et =
+      record-here at (head points inlet outlet) within kind size
+      (two-here (at + 6) (at + 6 + 2) refl (omega arith)
+      ∙ ap (λ l. two (twoAt bs (at + 6)) ++ l) (two-here (at + 6 + 2) (at + 6 + 4) (omega arith) (omega arith))
+      ∙ ap (λ l. two (twoAt bs (at + 6)) ++ (two (twoAt bs (at + 6 + 2)) ++ l)) (two-here (at + 6 + 4) (endAt bs at) (omega arith) within)
+      ∙ rw (en, es, et) refl)
+
   head-here : endAt bs 0 ≤ length bs → kindAt bs 0 ≡ 1 → lengthAt bs 0 ≡ 6 → drop 0 bs ≡ recordBytes (head (twoAt bs 6) (twoAt bs 8) (twoAt bs 10)) ++ drop (endAt bs 0) bs
-  head-here within kind size =
-      record-here 0 (head (twoAt bs 6) (twoAt bs 8) (twoAt bs 10)) within kind size
-      (two-here 6 8 refl (omega arith)
-      ∙ ap (λ l. two (twoAt bs 6) ++ l) (two-here 8 10 refl (omega arith))
-      ∙ ap (λ l. two (twoAt bs 6) ++ (two (twoAt bs 8) ++ l)) (two-here 10 (endAt bs 0) (omega arith) within))
+  head-here within kind size = head-at 0 (twoAt bs 6) (twoAt bs 8) (twoAt bs 10) within kind size refl refl refl
 
 -- the kind that is left where a record passes
 kind-note : (bs : List ℕ) (at : ℕ) (seen : Bool) → askRecord bs at seen ≡ None → (kindAt bs at ≡ 1 → ⊥) → (kindAt bs at ≡ 2 → ⊥) → kindAt bs at ≡ 3

@@ -9,3 +9,4 @@ pub mod FileWrites
 pub mod Laid
 pub mod Cut
 pub mod Meaning
+pub mod PartRecords

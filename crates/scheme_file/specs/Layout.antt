@@ -1,8 +1,8 @@
 -- What a scheme file is: its records, laid one after another.
 use mathlib.Core.Path.{_≡_}
 use mathlib.Core.List.{List, [], _∷_, _++_, map}
-use Prim.Native.Nat.{ℕ, _^_, _≤_, _<_}
-use lib.ListN.{length}
+use Prim.Native.Nat.{ℕ, _+_, _^_, _≤_, _<_}
+use lib.ListN.{length, drop}
 use Rattle.std.specs.shelf.Lists.{All, joined}
 use Rattle.scheme.specs.declared.rows.Reach.{Reach}
 use Rattle.scheme.specs.Scheme.{Scheme}
@@ -30,6 +30,10 @@ bodyOf (note bytes) = bytes
 -- a record: the body's length, the kind and the body
 abbrev pub recordBytes : FileRecord → List ℕ
 recordBytes r = four (length (bodyOf r)) ++ (two (kindOf r) ++ bodyOf r)
+
+-- a record is laid at a place of a byte string
+abbrev pub LaidAt : List ℕ → ℕ → FileRecord → Type 0
+LaidAt bs at r = drop at bs ≡ recordBytes r ++ drop (at + length (recordBytes r)) bs
 
 -- what a scheme file holds: a head, one block of rows, and notes before and after the rows
 pub record Contents : Type 0 where

@@ -1,13 +1,15 @@
 -- What a part of a file is: its kind, its place and the values that stand there.
 use mathlib.Core.Path.{_≡_}
 use mathlib.Core.List.{List}
-use Prim.Native.Nat.{ℕ, _+_, min}
+use Prim.Native.Nat.{ℕ, _+_, _/_, min}
 use lib.ListN.{length}
 use denote.Ref.{now}
 use Rattle.std.specs.shelf.Lists.{between}
 use Rattle.scheme_file.specs.declared.parts.Part.{Part}
 use Rattle.scheme_file.specs.declared.parts.Part.the-variants.{Head, Rows, Note}
 use Rattle.scheme_file.specs.Numbers.{twoAt}
+use Rattle.scheme_file.specs.Layout.{FileRecord, LaidAt, head, rows, note}
+use Rattle.scheme_file.specs.Rows.{rowsAt}
 use Rattle.scheme_file.specs.Asked.{kindAt, lengthAt}
 
 abbrev pub partKind : Part → ℕ
@@ -37,9 +39,16 @@ ValuesAt bs p (Head at points inlet outlet) =
 ValuesAt bs p (Rows at bytes) = now bytes ≡ between p (p + length (now bytes)) bs
 ValuesAt bs p (Note at bytes) = now bytes ≡ between p (p + length (now bytes)) bs
 
--- the part is the record that stands at a place
+-- the record that a part is
+abbrev pub partRecord : Part → FileRecord
+partRecord (Head at points inlet outlet) = head points inlet outlet
+partRecord (Rows at bytes) = rows (rowsAt (now bytes) 0 (length (now bytes) / 12))
+partRecord (Note at bytes) = note (now bytes)
+
+-- the part is the record that stands at a place, and is laid there
 pub record PartAt (bs : List ℕ) (at : ℕ) (part : Part) : Type 0 where
   pub place : partPlace part ≡ at
   pub kind : partKind part ≡ kindAt bs at
   pub size : partSize part ≡ lengthAt bs at
   pub values : ValuesAt bs (at + 6) part
+  pub laid : LaidAt bs at (partRecord part)

@@ -15,7 +15,7 @@ use crate::numbers::get_u32;
 use scheme::FileFault;
 
 // A record is a body length, a kind and the body.
-const HEADER: usize = 6;
+pub(crate) const HEADER: usize = 6;
 
 const HEAD: u16 = 1;
 
@@ -25,7 +25,7 @@ const NOTE: u16 = 3;
 
 const HEAD_SIZE: usize = 6;
 
-const ROW_SIZE: usize = 12;
+pub(crate) const ROW_SIZE: usize = 12;
 
 const MOST_ROWS: usize = 4096;
 
@@ -111,9 +111,9 @@ pub fn part_at(bytes: &[u8], at: usize, rows_seen: bool) -> Result<Option<Part<'
     match get_u16(bytes, at + 4) {
         HEAD if at == 0 && size == HEAD_SIZE => Ok(Some(Part::Head {
             at,
-            points: get_u16(bytes, at + 6),
-            inlet: get_u16(bytes, at + 8),
-            outlet: get_u16(bytes, at + 10),
+            points: get_u16(bytes, at + HEADER),
+            inlet: get_u16(bytes, at + HEADER + 2),
+            outlet: get_u16(bytes, at + HEADER + 4),
         })),
         ROWS if at > 0 => {
             if rows_seen || size % ROW_SIZE != 0 || size / ROW_SIZE > MOST_ROWS {

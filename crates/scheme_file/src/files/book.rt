@@ -12,13 +12,19 @@ use crate::files::SchemeFile;
 use crate::numbers::get_u16;
 use crate::numbers::get_u32;
 use crate::numbers::put_u32;
+use crate::parts::ROW_SIZE;
 use scheme::Book;
 use scheme::BookFault;
 use scheme::Register;
 
-const HEAD_END: usize = 12;
+// Where the head's numbers begin, and where it ends.
+const POINTS: usize = 6;
 
-const ROW_SIZE: usize = 12;
+const INLET: usize = 8;
+
+const OUTLET: usize = 10;
+
+const HEAD_END: usize = 12;
 
 // Where the fields of a row begin, after the tail.
 const HEAD: usize = 2;
@@ -73,15 +79,15 @@ pub impl Register for SchemeFile<'_> as SchemeFileRegister {
     ghost scheme = { fileScheme };
 
     fn points(&self) -> u16 {
-        get_u16(self.bytes, 6)
+        get_u16(self.bytes, POINTS)
     }
 
     fn inlet(&self) -> u16 {
-        get_u16(self.bytes, 8)
+        get_u16(self.bytes, INLET)
     }
 
     fn outlet(&self) -> u16 {
-        get_u16(self.bytes, 10)
+        get_u16(self.bytes, OUTLET)
     }
 
     fn reaches(&self) -> usize {

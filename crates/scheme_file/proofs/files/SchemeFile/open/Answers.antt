@@ -28,7 +28,7 @@ returns c =
       block = block;
       found = found;
       begin = refl;
-      whole = omega (arith, c .in-Continue-block .ensures tt .lies .whole, c .get-u32-count .ensures);
+      whole = omega (arith, c .in-Continue-block .ensures tt .lies .whole, c .get-u32 .ensures);
       bytes = c .row-block .ensures .bytes;
     }
     in
