@@ -1,0 +1,4 @@
+// Layers: registers that stand on any register, and books that stand on any book.
+pub mod turns;
+
+pub use turns::Turned;
