@@ -3,3 +3,5 @@ pub mod Refused
 pub mod Turning
 pub mod Totals
 pub mod TurnedFlows
+pub mod Sites
+pub mod SiteWrites

@@ -1,2 +1,3 @@
+pub mod Junctions
 pub mod Turns
 pub mod TurnLaws

@@ -1,0 +1,96 @@
+-- What a write does to a junction's list of reaches, by where the reach is kept.
+use mathlib.Core.Path.{_≡_, refl, sym, ap, _∙_}
+use mathlib.Core.Logic.{⊎-elim, _≢_}
+use mathlib.Core.Bool.{Bool, true, false, cond, _&&_}
+use mathlib.Core.List.{List, [], _∷_, _++_, map}
+use Prim.Native.Nat.{ℕ, _+_, _-_, _<_, _≤_}
+use native.Mathlib.Omega.{arith}
+use lib.ListN.{length, getD, set}
+use lib.Dec.{leb}
+use Rattle.std.specs.Finite.{nth}
+use Rattle.std.specs.Iters.{counting}
+use Rattle.std.specs.declared.option.Option.{Option}
+use Rattle.std.specs.declared.option.Option.the-variants.{Some, None}
+use Rattle.std.proofs.shelf.Counted.{length-map-counting, getD-map-counting}
+use Rattle.std.proofs.shelf.Lists.{length-map, length-set, set-append-left, set-append-right, same-lists, getD-set-same, getD-set-other}
+use Rattle.std.proofs.shelf.Tests.{cases-eq}
+use Rattle.scheme.specs.declared.rows.Reach.{Reach}
+use Rattle.scheme.specs.Scheme.{Scheme, changed, over}
+use Rattle.layers.specs.declared.gates.Gate.{Gate}
+use Rattle.layers.specs.Junctions.{junction, carriable, gated, between, through, shut, split}
+use Rattle.layers.proofs.Mapped.{changed-map}
+use Rattle.layers.proofs.Sites.{nth-append-left, gated-at, junction-on}
+
+length-changed : (f : Reach → Reach) (rs : List Reach) (k : ℕ) → length (changed f rs k) ≡ length rs
+length-changed f rs k =
+    elim (nth rs k) as (λ o. length {A = Reach} (elim o [ None ↦ rs | Some r ↦ set rs k (f r) ]) ≡ length rs)
+    [ None ↦ refl | Some r ↦ length-set rs k (f r) ]
+
+changed-some : (f : Reach → Reach) (rs : List Reach) (k : ℕ) (r : Reach) → nth rs k ≡ Some r → changed f rs k ≡ set rs k (f r)
+changed-some f rs k r here = rw (here, changed) refl
+
+changed-append : (f : Reach → Reach) (xs ys : List Reach) (k : ℕ) → k < length xs → changed f (xs ++ ys) k ≡ changed f xs k ++ ys
+changed-append f xs ys k within =
+    rw (nth-append-left xs ys k within, changed)
+    (elim (nth xs k) as
+    (λ o. elim o [ None ↦ xs ++ ys | Some r ↦ set (xs ++ ys) k (f r) ] ≡ elim o [ None ↦ xs | Some r ↦ set xs k (f r) ] ++ ys)
+    [ None ↦ refl | Some r ↦ set-append-left xs ys k (f r) within ])
+
+abbrev gateReach : ℕ → ℕ → Gate → Reach
+gateReach n v gate = record { tail = v; head = v + n; limit = gate .limit; flow = gate .flow }
+
+-- the gates with one of them changed, as reaches
+set-through : (n : ℕ) (gates : List Gate) (v : ℕ) (gate : Gate) → v < n → set (map (through n gates) (counting 0 n)) v (through n (set gates v gate) v) ≡ map (through n (set gates v gate)) (counting 0 n)
+set-through n gates v gate point =
+    let old = map (through n gates) (counting 0 n) in
+    let new = map (through n (set gates v gate)) (counting 0 n) in
+    let this = through n (set gates v gate) v in
+    same-lists (set old v this) new
+    (length-set old v this ∙ length-map-counting (through n gates) 0 n ∙ sym (length-map-counting (through n (set gates v gate)) 0 n))
+    (λ k d within.
+    let below : k < n = omega (arith, length-set old v this, length-map-counting (through n gates) 0 n) in
+    ⊎-elim
+    (λ (e : k ≡ v).
+    ap (λ i. getD (set old v this) i d) e
+    ∙ getD-set-same old v this d (omega (arith, length-map-counting (through n gates) 0 n))
+    ∙ ap (through n (set gates v gate)) (sym e)
+    ∙ sym (getD-map-counting (through n (set gates v gate)) 0 n k k d below (omega arith)))
+    (λ (apart : k ≢ v).
+    getD-set-other old v k this d apart
+    ∙ getD-map-counting (through n gates) 0 n k k d below (omega arith)
+    ∙ ap (gateReach n k) (sym (getD-set-other gates v k gate shut apart))
+    ∙ sym (getD-map-counting (through n (set gates v gate)) 0 n k k d below (omega arith)))
+    (cases-eq k v))
+
+module _ (s : Scheme) (gates : List Gate) (on : carriable s ≡ true) (f : Reach → Reach) where
+  -- a reach below changed
+  pub written-below : ((r : Reach) → f (between (s .points) r) ≡ between (s .points) (f r)) → (k : ℕ) → k < length (s .reaches) → junction (over s (changed f (s .reaches) k)) gates ≡ over (junction s gates) (changed f (junction s gates .reaches) k)
+  written-below alike k within =
+      let n = s .points in
+      let rs = s .reaches in
+      let own = map (through n gates) (counting 0 n) in
+      let still : carriable (over s (changed f rs k)) ≡ true
+      = ap (λ m. leb n 256 && leb m 8192) (length-changed f rs k) ∙ on in
+      junction-on (over s (changed f rs k)) gates still
+      ∙ ap (over (split s gates))
+      (ap (λ xs. xs ++ own) (sym (changed-map f (between n) alike rs k))
+      ∙ sym (changed-append f (map (between n) rs) own k (omega (arith, length-map rs (between n)))))
+      ∙ ap (λ t. over t (changed f (t .reaches) k)) (sym (junction-on s gates on))
+
+  -- a gate changed
+  pub written-at : (v : ℕ) (gate : Gate) → v < s .points → v < length gates → f (through (s .points) gates v) ≡ gateReach (s .points) v gate → junction s (set gates v gate) ≡ over (junction s gates) (changed f (junction s gates .reaches) (length (s .reaches) + v))
+  written-at v gate point listed changes =
+      let n = s .points in
+      let rs = s .reaches in
+      let low = map (between n) rs in
+      let own = map (through n gates) (counting 0 n) in
+      let k = length rs + v in
+      let this : f (through n gates v) ≡ through n (set gates v gate) v
+      = changes ∙ ap (gateReach n v) (sym (getD-set-same gates v gate shut listed)) in
+      junction-on s (set gates v gate) on
+      ∙ ap (over (split s gates))
+      (ap (λ xs. low ++ xs) (sym (set-through n gates v gate point) ∙ ap (set own v) (sym this))
+      ∙ ap (λ i. low ++ set own i (f (through n gates v))) {x = v} {y = k - length rs} (omega arith)
+      ∙ sym (set-append-right low own (length rs) k (f (through n gates v)) (length-map rs (between n)) (omega arith))
+      ∙ sym (changed-some f (gated s gates) k (through n gates v) (gated-at s gates v point)))
+      ∙ ap (λ t. over t (changed f (t .reaches) k)) (sym (junction-on s gates on))

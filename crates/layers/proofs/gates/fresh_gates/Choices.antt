@@ -1,0 +1,8 @@
+use mathlib.Core.Path.{_≡_}
+use Prim.Native.Nat.{ℕ, _<_}
+use lib.ListN.{length, getD}
+use Rattle.layers.specs.Junctions.{freshGate, shut}
+use Rattle.layers.proofs.gates.fresh_gates.Given as given
+
+abbrev pub Inv-loop-v : given.InvT-loop-v
+Inv-loop-v l = (length (l .gates) ≡ 256) × ((k : ℕ) → k < l .v → getD (l .gates) k shut ≡ freshGate (l .limits) k)
