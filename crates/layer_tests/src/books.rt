@@ -1,37 +1,37 @@
 // What every register and every book must do, whatever it is made of.
+use crate::examples::Dry;
 use scheme::Book;
 use scheme::BookFault;
-use scheme::Reach;
 use scheme::Register;
 use scheme::faults::BookFaultDebug;
 use scheme::faults::BookFaultPartialEq;
 use std::test::*;
 
-// What a register is to read as.
+// What a register is to read as, while nothing flows.
 #[derive(Drop)]
 pub struct Want<'a> {
     pub points: u16,
     pub inlet: u16,
     pub outlet: u16,
-    pub rows: &'a [Reach],
+    pub reaches: &'a [Dry],
 }
 
 pub fn reads_as<R: Register>(register: &R, want: &Want) -> Result<(), Fail> {
     check_eq(register.points(), want.points)?;
     check_eq(register.inlet(), want.inlet)?;
     check_eq(register.outlet(), want.outlet)?;
-    check_eq(register.reaches(), want.rows.len())?;
-    for (k, row) in want.rows.iter().enumerate() {
-        row_is(register, k, *row)?;
+    check_eq(register.reaches(), want.reaches.len())?;
+    for (k, reach) in want.reaches.iter().enumerate() {
+        reach_is(register, k, *reach, 0)?;
     }
-    nothing_at(register, want.rows.len())
+    nothing_at(register, want.reaches.len())
 }
 
-fn row_is<R: Register>(register: &R, k: usize, row: Reach) -> Result<(), Fail> {
-    check_eq(register.tail(k), Some(row.tail))?;
-    check_eq(register.head(k), Some(row.head))?;
-    check_eq(register.limit(k), Some(row.limit))?;
-    check_eq(register.flow(k), Some(row.flow))
+fn reach_is<R: Register>(register: &R, k: usize, reach: Dry, flow: u32) -> Result<(), Fail> {
+    check_eq(register.tail(k), Some(reach.0))?;
+    check_eq(register.head(k), Some(reach.1))?;
+    check_eq(register.limit(k), Some(reach.2))?;
+    check_eq(register.flow(k), Some(flow))
 }
 
 fn nothing_at<R: Register>(register: &R, k: usize) -> Result<(), Fail> {
@@ -44,24 +44,17 @@ fn nothing_at<R: Register>(register: &R, k: usize) -> Result<(), Fail> {
 // Writes every reach of a book that reads as wanted, and nothing but the field written changes.
 pub fn takes_writes<B: Book>(book: &mut B, want: &Want) -> Result<(), Fail> {
     reads_as(book, want)?;
-    for (k, row) in want.rows.iter().enumerate() {
+    for (k, reach) in want.reaches.iter().enumerate() {
+        let (tail, head, limit) = *reach;
         book.set_flow(k, 7)?;
-        row_is(book, k, Reach { flow: 7, ..*row })?;
+        reach_is(book, k, *reach, 7)?;
         book.set_limit(k, 8)?;
-        row_is(
-            book,
-            k,
-            Reach {
-                flow: 7,
-                limit: 8,
-                ..*row
-            },
-        )?;
-        book.set_flow(k, row.flow)?;
-        book.set_limit(k, row.limit)?;
+        reach_is(book, k, (tail, head, 8), 7)?;
+        book.set_flow(k, 0)?;
+        book.set_limit(k, limit)?;
         reads_as(book, want)?;
     }
-    refuses(book, want.rows.len())?;
+    refuses(book, want.reaches.len())?;
     refuses(book, usize::MAX)?;
     reads_as(book, want)
 }

@@ -2,16 +2,14 @@
 use crate::books::Want;
 use crate::books::reads_as;
 use crate::books::refuses;
-use crate::examples::dry;
 use crate::examples::example;
-use crate::examples::reach;
+use crate::examples::table;
 use crate::examples::twins;
 use layers::Junction;
 use layers::junctions::JunctionBook;
 use layers::junctions::JunctionRegister;
 use scheme::Book;
 use scheme::Register;
-use scheme::Table;
 use scheme::faults::BookFaultDebug;
 use scheme::tables::TableBook;
 use scheme::tables::TableRegister;
@@ -25,7 +23,7 @@ fn is_nothing<B: Book>(book: &mut B) -> Result<(), Fail> {
             points: 0,
             inlet: 65_535,
             outlet: 65_535,
-            rows: &[],
+            reaches: &[],
         },
     )?;
     refuses(book, 0)
@@ -50,13 +48,13 @@ fn a_long_list_is_cut(rt: LibcRuntime) -> Result<(), Fail> {
 
 #[test]
 fn at_most_256_points_are_split(rt: LibcRuntime) -> Result<(), Fail> {
-    let most = Junction::new(dry(rt.alloc(), 256), &[]);
+    let most = Junction::new(table(rt.alloc(), 256, 0, 1, &[])?, &[]);
     check_eq(most.points(), 512)?;
     check_eq(most.outlet(), 257)?;
     check_eq(most.reaches(), 256)?;
     check_eq(most.tail(255), Some(255))?;
     check_eq(most.head(255), Some(511))?;
-    is_nothing(&mut Junction::new(dry(rt.alloc(), 257), &[]))
+    is_nothing(&mut Junction::new(table(rt.alloc(), 257, 0, 1, &[])?, &[]))
 }
 
 #[test]
@@ -70,25 +68,20 @@ fn at_most_8192_reaches_are_carried(rt: LibcRuntime) -> Result<(), Fail> {
 
 #[test]
 fn ends_that_are_no_points_read_65535(rt: LibcRuntime) -> Result<(), Fail> {
-    let table = Table::new(
-        2,
-        2,
-        9,
-        [reach(2, 1, 5), reach(0, 7, 4)].to_vec(rt.alloc())?,
-    );
+    let below = table(rt.alloc(), 2, 2, 9, &[(2, 1, 5), (0, 7, 4)])?;
     let rows = [
-        reach(65_535, 1, 5),
-        reach(2, 65_535, 4),
-        reach(0, 2, 1_000_000),
-        reach(1, 3, 1_000_000),
+        (65_535, 1, 5),
+        (2, 65_535, 4),
+        (0, 2, 1_000_000),
+        (1, 3, 1_000_000),
     ];
     reads_as(
-        &Junction::new(table, &[]),
+        &Junction::new(below, &[]),
         &Want {
             points: 4,
             inlet: 65_535,
             outlet: 65_535,
-            rows: &rows,
+            reaches: &rows,
         },
     )
 }

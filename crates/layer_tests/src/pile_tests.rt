@@ -2,8 +2,8 @@
 use crate::books::Want;
 use crate::books::reads_as;
 use crate::books::takes_writes;
+use crate::examples::EXAMPLE;
 use crate::examples::example;
-use crate::examples::reach;
 use layers::Junction;
 use layers::Turned;
 use layers::junctions::JunctionBook;
@@ -16,13 +16,6 @@ use std::test::*;
 
 #[test]
 fn a_table_is_a_book(rt: LibcRuntime) -> Result<(), Fail> {
-    let rows = [
-        reach(0, 1, 5),
-        reach(0, 2, 4),
-        reach(1, 2, 3),
-        reach(1, 3, 2),
-        reach(2, 3, 6),
-    ];
     let mut book = example(rt.alloc())?;
     takes_writes(
         &mut book,
@@ -30,20 +23,14 @@ fn a_table_is_a_book(rt: LibcRuntime) -> Result<(), Fail> {
             points: 4,
             inlet: 0,
             outlet: 3,
-            rows: &rows,
+            reaches: &EXAMPLE,
         },
     )
 }
 
 #[test]
 fn a_turned_table_is_a_book(rt: LibcRuntime) -> Result<(), Fail> {
-    let rows = [
-        reach(1, 0, 5),
-        reach(2, 0, 4),
-        reach(2, 1, 3),
-        reach(3, 1, 2),
-        reach(3, 2, 6),
-    ];
+    let rows = [(1, 0, 5), (2, 0, 4), (2, 1, 3), (3, 1, 2), (3, 2, 6)];
     let mut book = Turned::new(example(rt.alloc())?);
     takes_writes(
         &mut book,
@@ -51,7 +38,7 @@ fn a_turned_table_is_a_book(rt: LibcRuntime) -> Result<(), Fail> {
             points: 4,
             inlet: 3,
             outlet: 0,
-            rows: &rows,
+            reaches: &rows,
         },
     )
 }
@@ -60,15 +47,15 @@ fn a_turned_table_is_a_book(rt: LibcRuntime) -> Result<(), Fail> {
 #[test]
 fn a_junction_is_a_book(rt: LibcRuntime) -> Result<(), Fail> {
     let rows = [
-        reach(4, 1, 5),
-        reach(4, 2, 4),
-        reach(5, 2, 3),
-        reach(5, 3, 2),
-        reach(6, 3, 6),
-        reach(0, 4, 9),
-        reach(1, 5, 9),
-        reach(2, 6, 5),
-        reach(3, 7, 9),
+        (4, 1, 5),
+        (4, 2, 4),
+        (5, 2, 3),
+        (5, 3, 2),
+        (6, 3, 6),
+        (0, 4, 9),
+        (1, 5, 9),
+        (2, 6, 5),
+        (3, 7, 9),
     ];
     let mut book = Junction::new(example(rt.alloc())?, &[9, 9, 5, 9]);
     takes_writes(
@@ -77,7 +64,7 @@ fn a_junction_is_a_book(rt: LibcRuntime) -> Result<(), Fail> {
             points: 8,
             inlet: 0,
             outlet: 7,
-            rows: &rows,
+            reaches: &rows,
         },
     )
 }
@@ -85,15 +72,15 @@ fn a_junction_is_a_book(rt: LibcRuntime) -> Result<(), Fail> {
 #[test]
 fn three_layers_are_a_book(rt: LibcRuntime) -> Result<(), Fail> {
     let rows = [
-        reach(0, 5, 5),
-        reach(0, 6, 4),
-        reach(1, 6, 3),
-        reach(1, 7, 2),
-        reach(2, 7, 6),
-        reach(4, 0, 9),
-        reach(5, 1, 9),
-        reach(6, 2, 5),
-        reach(7, 3, 9),
+        (0, 5, 5),
+        (0, 6, 4),
+        (1, 6, 3),
+        (1, 7, 2),
+        (2, 7, 6),
+        (4, 0, 9),
+        (5, 1, 9),
+        (6, 2, 5),
+        (7, 3, 9),
     ];
     let table = example(rt.alloc())?;
     let mut book = Turned::new(Junction::new(Turned::new(table), &[9, 9, 5, 9]));
@@ -103,25 +90,18 @@ fn three_layers_are_a_book(rt: LibcRuntime) -> Result<(), Fail> {
             points: 8,
             inlet: 4,
             outlet: 3,
-            rows: &rows,
+            reaches: &rows,
         },
     )
 }
 
 #[test]
 fn the_register_below_comes_back(rt: LibcRuntime) -> Result<(), Fail> {
-    let rows = [
-        reach(0, 1, 5),
-        reach(0, 2, 4),
-        reach(1, 2, 3),
-        reach(1, 3, 2),
-        reach(2, 3, 6),
-    ];
     let want = Want {
         points: 4,
         inlet: 0,
         outlet: 3,
-        rows: &rows,
+        reaches: &EXAMPLE,
     };
     let pile = Junction::new(Turned::new(example(rt.alloc())?), &[]);
     reads_as(pile.below().below(), &want)?;
