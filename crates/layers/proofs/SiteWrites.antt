@@ -14,12 +14,16 @@ use Rattle.std.specs.declared.option.Option.the-variants.{Some, None}
 use Rattle.std.proofs.shelf.Counted.{length-map-counting, getD-map-counting}
 use Rattle.std.proofs.shelf.Lists.{length-map, length-set, set-append-left, set-append-right, same-lists, getD-set-same, getD-set-other}
 use Rattle.std.proofs.shelf.Tests.{cases-eq}
+use Rattle.scheme.proofs.Writes.{changed-past, unlisted-past, unlisted-within}
+use Rattle.scheme.specs.declared.faults.Layer.the-variants.{Book}
 use Rattle.scheme.specs.declared.rows.Reach.{Reach}
+use Rattle.scheme.specs.Refusals.{unlisted, refused}
 use Rattle.scheme.specs.Scheme.{Scheme, changed, over}
 use Rattle.layers.specs.declared.gates.Gate.{Gate}
-use Rattle.layers.specs.Junctions.{junction, carriable, gated, between, through, shut, split}
+use Rattle.layers.specs.declared.gates.Site.the-variants.{Below, At, Nowhere}
+use Rattle.layers.specs.Junctions.{siteOf, junction, carriable, gated, between, through, shut, split}
 use Rattle.layers.proofs.Mapped.{changed-map}
-use Rattle.layers.proofs.Sites.{nth-append-left, gated-at, junction-on}
+use Rattle.layers.proofs.Sites.{nth-append-left, gated-at, junction-on, length-on, placed}
 
 length-changed : (f : Reach → Reach) (rs : List Reach) (k : ℕ) → length (changed f rs k) ≡ length rs
 length-changed f rs k =
@@ -64,7 +68,7 @@ set-through n gates v gate point =
 
 module _ (s : Scheme) (gates : List Gate) (on : carriable s ≡ true) (f : Reach → Reach) where
   -- a reach below changed
-  pub written-below : ((r : Reach) → f (between (s .points) r) ≡ between (s .points) (f r)) → (k : ℕ) → k < length (s .reaches) → junction (over s (changed f (s .reaches) k)) gates ≡ over (junction s gates) (changed f (junction s gates .reaches) k)
+  written-below : ((r : Reach) → f (between (s .points) r) ≡ between (s .points) (f r)) → (k : ℕ) → k < length (s .reaches) → junction (over s (changed f (s .reaches) k)) gates ≡ over (junction s gates) (changed f (junction s gates .reaches) k)
   written-below alike k within =
       let n = s .points in
       let rs = s .reaches in
@@ -78,7 +82,7 @@ module _ (s : Scheme) (gates : List Gate) (on : carriable s ≡ true) (f : Reach
       ∙ ap (λ t. over t (changed f (t .reaches) k)) (sym (junction-on s gates on))
 
   -- a gate changed
-  pub written-at : (v : ℕ) (gate : Gate) → v < s .points → v < length gates → f (through (s .points) gates v) ≡ gateReach (s .points) v gate → junction s (set gates v gate) ≡ over (junction s gates) (changed f (junction s gates .reaches) (length (s .reaches) + v))
+  written-at : (v : ℕ) (gate : Gate) → v < s .points → v < length gates → f (through (s .points) gates v) ≡ gateReach (s .points) v gate → junction s (set gates v gate) ≡ over (junction s gates) (changed f (junction s gates .reaches) (length (s .reaches) + v))
   written-at v gate point listed changes =
       let n = s .points in
       let rs = s .reaches in
@@ -94,3 +98,33 @@ module _ (s : Scheme) (gates : List Gate) (on : carriable s ≡ true) (f : Reach
       ∙ sym (set-append-right low own (length rs) k (f (through n gates v)) (length-map rs (between n)) (omega arith))
       ∙ sym (changed-some f (gated s gates) k (through n gates v) (gated-at s gates v point)))
       ∙ ap (λ t. over t (changed f (t .reaches) k)) (sym (junction-on s gates on))
+
+-- what a write at each site answers, and what it leaves
+
+module _ (s : Scheme) (gates : List Gate) (k : ℕ) where
+  pub below-answer : Below ≡ siteOf s k → unlisted s k ≡ unlisted (junction s gates) k
+  below-answer here =
+      let is = placed s gates k Below here in
+      unlisted-within s k (is .1)
+      ∙ sym (unlisted-within (junction s gates) k (omega (arith, is .1, length-on s gates (is .0))))
+
+  pub at-answer : (v : ℕ) → At v ≡ siteOf s k → None ≡ unlisted (junction s gates) k
+  at-answer v here =
+      let is = placed s gates k (At v) here in
+      sym (unlisted-within (junction s gates) k (omega (arith, is .1, is .2, length-on s gates (is .0))))
+
+  pub nowhere-answer : Nowhere ≡ siteOf s k → Some (refused Book 11 k) ≡ unlisted (junction s gates) k
+  nowhere-answer here = sym (unlisted-past (junction s gates) k (placed s gates k Nowhere here))
+
+  module _ (f : Reach → Reach) where
+    pub below-after : ((r : Reach) → f (between (s .points) r) ≡ between (s .points) (f r)) → Below ≡ siteOf s k → junction (over s (changed f (s .reaches) k)) gates ≡ over (junction s gates) (changed f (junction s gates .reaches) k)
+    below-after alike here = let is = placed s gates k Below here in written-below s gates (is .0) f alike k (is .1)
+
+    pub at-after : (v : ℕ) (gate : Gate) → At v ≡ siteOf s k → v < length gates → f (through (s .points) gates v) ≡ gateReach (s .points) v gate → junction s (set gates v gate) ≡ over (junction s gates) (changed f (junction s gates .reaches) k)
+    at-after v gate here listed changes =
+        let is = placed s gates k (At v) here in
+        written-at s gates (is .0) f v gate (is .2) listed changes
+        ∙ ap (λ i. over (junction s gates) (changed f (junction s gates .reaches) i)) (sym (is .1))
+
+    pub nowhere-after : Nowhere ≡ siteOf s k → junction s gates ≡ over (junction s gates) (changed f (junction s gates .reaches) k)
+    nowhere-after here = ap (over (junction s gates)) (sym (changed-past f (junction s gates .reaches) k (placed s gates k Nowhere here)))
