@@ -5,3 +5,6 @@ pub mod Totals
 pub mod TurnedFlows
 pub mod Sites
 pub mod SiteWrites
+pub mod Splits
+pub mod SplitFlows
+pub mod SplitLaws

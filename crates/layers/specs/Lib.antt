@@ -1,3 +1,4 @@
+pub mod JunctionLaws
 pub mod Junctions
 pub mod Turns
 pub mod TurnLaws

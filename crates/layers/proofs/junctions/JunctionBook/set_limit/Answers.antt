@@ -16,8 +16,8 @@ returns-in-Below g c =
     record {
       answer = c .set-limit .ensures .answer ∙ below-answer s (j .gates) (c .args .reach) here;
       after =
-        ap (λ t. junction t (j .gates)) (c .set-limit .ensures .after)
-        ∙ below-after s (j .gates) (c .args .reach) (limited (c .args .limit)) (λ r. refl) here;
+          ap (λ t. junction t (j .gates)) (c .set-limit .ensures .after)
+          ∙ below-after s (j .gates) (c .args .reach) (limited (c .args .limit)) (λ r. refl) here;
     }
 
 pub returns-in-At : need.returns-in-At
@@ -31,8 +31,8 @@ returns-in-At g c =
     record {
       answer = at-answer s (j .gates) (c .args .reach) v here;
       after =
-        ap (λ i. junction s (set (j .gates) i record { limit = x; flow = getD (j .gates) i shut .flow })) (c .from .ensures)
-        ∙ at-after s (j .gates) (c .args .reach) (limited x) v (record { limit = x; flow = getD (j .gates) v shut .flow }) here held refl;
+          ap (λ i. junction s (set (j .gates) i record { limit = x; flow = getD (j .gates) i shut .flow })) (c .from .ensures)
+          ∙ at-after s (j .gates) (c .args .reach) (limited x) v (record { limit = x; flow = getD (j .gates) v shut .flow }) here held refl;
     }
 
 pub returns-in-Nowhere : need.returns-in-Nowhere
