@@ -7,4 +7,5 @@ pub mod Sites
 pub mod SiteWrites
 pub mod Splits
 pub mod SplitFlows
+pub mod LaidFlows
 pub mod SplitLaws

@@ -1,15 +1,14 @@
 -- What a write does to a junction's list of reaches, by where the reach is kept.
 use mathlib.Core.Path.{_≡_, refl, sym, ap, _∙_}
 use mathlib.Core.Logic.{⊎-elim, _≢_}
-use mathlib.Core.Bool.{Bool, true, false, cond, _&&_}
-use mathlib.Core.List.{List, [], _∷_, _++_, map}
-use Prim.Native.Nat.{ℕ, _+_, _-_, _<_, _≤_}
+use mathlib.Core.Bool.{true, _&&_}
+use mathlib.Core.List.{List, _++_, map}
+use Prim.Native.Nat.{ℕ, _+_, _-_, _<_}
 use native.Mathlib.Omega.{arith}
 use lib.ListN.{length, getD, set}
 use lib.Dec.{leb}
 use Rattle.std.specs.Finite.{nth}
 use Rattle.std.specs.Iters.{counting}
-use Rattle.std.specs.declared.option.Option.{Option}
 use Rattle.std.specs.declared.option.Option.the-variants.{Some, None}
 use Rattle.std.proofs.shelf.Counted.{length-map-counting, getD-map-counting}
 use Rattle.std.proofs.shelf.Lists.{length-map, length-set, set-append-left, set-append-right, same-lists, getD-set-same, getD-set-other}
@@ -21,7 +20,7 @@ use Rattle.scheme.specs.Refusals.{unlisted, refused}
 use Rattle.scheme.specs.Scheme.{Scheme, changed, over}
 use Rattle.layers.specs.declared.gates.Gate.{Gate}
 use Rattle.layers.specs.declared.gates.Site.the-variants.{Below, At, Nowhere}
-use Rattle.layers.specs.Junctions.{siteOf, junction, carriable, gated, between, through, shut, split}
+use Rattle.layers.specs.Junctions.{siteOf, junction, carriable, gated, between, through, gateReach, shut, split}
 use Rattle.layers.proofs.Mapped.{changed-map}
 use Rattle.layers.proofs.Sites.{nth-append-left, gated-at, junction-on, length-on, placed}
 
@@ -39,9 +38,6 @@ changed-append f xs ys k within =
     (elim (nth xs k) as
     (λ o. elim o [ None ↦ xs ++ ys | Some r ↦ set (xs ++ ys) k (f r) ] ≡ elim o [ None ↦ xs | Some r ↦ set xs k (f r) ] ++ ys)
     [ None ↦ refl | Some r ↦ set-append-left xs ys k (f r) within ])
-
-abbrev gateReach : ℕ → ℕ → Gate → Reach
-gateReach n v gate = record { tail = v; head = v + n; limit = gate .limit; flow = gate .flow }
 
 -- the gates with one of them changed, as reaches
 set-through : (n : ℕ) (gates : List Gate) (v : ℕ) (gate : Gate) → v < n → set (map (through n gates) (counting 0 n)) v (through n (set gates v gate) v) ≡ map (through n (set gates v gate)) (counting 0 n)

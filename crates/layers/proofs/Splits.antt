@@ -2,15 +2,15 @@
 -- At v, before the gate: what enters v below, and out of it the gate's flow. At v + n, behind the gate: the gate's flow,
 -- and out of it what leaves v below.
 use mathlib.Core.Path.{_≡_, refl, sym, ap, _∙_}
-use mathlib.Core.Logic.{⊎-elim, _≢_}
-use mathlib.Core.Bool.{Bool, true, false, cond}
-use mathlib.Core.List.{List, [], _∷_, _++_, map}
-use Prim.Native.Nat.{ℕ, zero, suc, _+_, _<_, _≤_}
+use mathlib.Core.Logic.{⊎-elim}
+use mathlib.Core.Bool.{Bool, false, cond}
+use mathlib.Core.List.{List, [], _∷_, map}
+use Prim.Native.Nat.{ℕ, zero, suc, _+_, _<_}
 use native.Mathlib.Omega.{arith}
-use lib.ListN.{length, getD}
-use lib.Dec.{eqb, ltb}
+use lib.ListN.{getD}
+use lib.Dec.{eqb}
 use Rattle.std.specs.Iters.{counting}
-use Rattle.std.specs.shelf.Lists.{sumBy, All}
+use Rattle.std.specs.shelf.Lists.{sumBy}
 use Rattle.std.proofs.shelf.Counted.{sumBy-map-counting-more}
 use Rattle.std.proofs.shelf.Elements.{all-weaker}
 use Rattle.std.proofs.shelf.Sums.{sumBy-append, sumBy-cons}

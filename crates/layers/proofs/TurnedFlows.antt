@@ -1,12 +1,9 @@
 -- Flows and sides of a register turned round.
 use mathlib.Core.Path.{_≡_, refl, sym, ap, subst, _∙_}
-use mathlib.Core.Logic.{_≢_}
-use mathlib.Core.Bool.{Bool, true, false, cond, not, _&&_}
+use mathlib.Core.Bool.{true, false, cond, not, _&&_}
 use mathlib.Core.List.{List, [], _∷_, map}
-use Prim.Native.Nat.{ℕ, _+_, _≤_, _<_}
+use Prim.Native.Nat.{ℕ, _+_, _≤_}
 use lib.Dec.{eqb}
-use lib.IntN.{subℕ}
-use lib.ListN.{length}
 use native.Mathlib.Omega.{arith}
 use Rattle.std.specs.shelf.Lists.{sumBy, All}
 use Rattle.std.proofs.shelf.Elements.{all-map, all-weaker}
@@ -14,11 +11,11 @@ use Rattle.std.proofs.shelf.Lists.{length-map}
 use Rattle.std.proofs.shelf.Tests.{not-true, not-false, not-from-true, not-from-false}
 use Rattle.scheme.specs.declared.rows.Reach.{Reach}
 use Rattle.scheme.specs.Scheme.{Scheme, over}
-use Rattle.scheme.specs.Flow.{Lawful, value, inflow, outflow, Points, Side, capacity, leaves}
+use Rattle.scheme.specs.Flow.{Lawful, inflow, outflow, Points, leaves}
 use Rattle.scheme.specs.Questions.{WellFormed, Joined}
 use Rattle.layers.specs.Turns.{turned, turnedReach}
 use Rattle.layers.specs.TurnLaws.{TurnedTwiceIsItself, LawfulAboveAsBelow, ValueAsBelow, SideIfRestIs, CapacityOfRest, WellFormedAsBelow, rest}
-use Rattle.layers.proofs.Totals.{sumBy-map, sumBy-alike, total, total-alike, total-one, total-sumBy, differ-at-two, subℕ-alike}
+use Rattle.layers.proofs.Totals.{sumBy-map, sumBy-alike, total, total-one, total-sumBy, differ-at-two, subℕ-alike}
 
 -- turning twice
 

@@ -26,12 +26,15 @@ between n r =
     record { tail = departure n (r .tail); head = arrival n (r .head); limit = r .limit; flow = r .flow }
 
 -- a gate, as the reach through its point
+abbrev pub gateReach : ℕ → ℕ → Gate → Reach
+gateReach n v gate = record { tail = v; head = v + n; limit = gate .limit; flow = gate .flow }
+
+-- what a list of gates has past its end, where no point is
 abbrev pub shut : Gate
 shut = record { limit = 0; flow = 0 }
 
 abbrev pub through : ℕ → List Gate → ℕ → Reach
-through n gates v =
-    record { tail = v; head = v + n; limit = getD gates v shut .limit; flow = getD gates v shut .flow }
+through n gates v = gateReach n v (getD gates v shut)
 
 -- the reaches below, in their order, and then the gates, in that of their points
 abbrev pub gated : Scheme → List Gate → List Reach

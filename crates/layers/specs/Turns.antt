@@ -1,5 +1,5 @@
 -- A register turned round.
-use mathlib.Core.List.{List, map}
+use mathlib.Core.List.{map}
 use Rattle.scheme.specs.declared.rows.Reach.{Reach}
 use Rattle.scheme.specs.Scheme.{Scheme}
 

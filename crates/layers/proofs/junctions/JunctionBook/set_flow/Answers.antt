@@ -3,7 +3,6 @@ use Prim.Native.Nat.{_<_}
 use borrow.Author.Needs.{needs}
 use lib.ListN.{length, getD, set}
 use Rattle.scheme.specs.Scheme.{flowing}
-use Rattle.layers.specs.declared.gates.Gate.{Gate}
 use Rattle.layers.specs.Junctions.{junction, shut}
 use Rattle.layers.proofs.SiteWrites.{below-answer, at-answer, nowhere-answer, below-after, at-after, nowhere-after}
 use Rattle.layers.proofs.junctions.JunctionBook.set_flow.Needs as need

@@ -1,6 +1,5 @@
 use mathlib.Core.Path.{sym, ap, _∙_}
 use native.Mathlib.Omega.{arith}
-use Rattle.std.specs.Options.{mapped}
 use Rattle.std.specs.declared.option.Option.the-variants.{Some, None}
 use Rattle.layers.specs.Junctions.{arrival}
 use Rattle.layers.proofs.Sites.{end-below, field-below, field-at, field-nowhere}

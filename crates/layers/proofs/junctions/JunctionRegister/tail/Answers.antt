@@ -1,5 +1,4 @@
 use mathlib.Core.Path.{sym, ap, _∙_}
-use Rattle.std.specs.Options.{mapped}
 use Rattle.std.specs.declared.option.Option.the-variants.{Some, None}
 use Rattle.layers.specs.Junctions.{departure}
 use Rattle.layers.proofs.Sites.{end-below, field-below, field-at, field-nowhere}
