@@ -13,7 +13,7 @@ use Rattle.scheme.specs.declared.rows.Reach.{Reach}
 use Rattle.scheme.specs.Scheme.{Scheme, over, flowing, flowsOver, withFlows}
 use Rattle.scheme.specs.Questions.{WellFormed, Joined}
 use Rattle.layers.specs.declared.gates.Gate.{Gate}
-use Rattle.layers.specs.Junctions.{split, between, through, gateReach, shut}
+use Rattle.layers.specs.Junctions.{split, between, through, gateReach, shut, carriedReaches, gateReaches}
 
 -- Flows laid over a list of reaches
 
@@ -78,10 +78,10 @@ gatesWith n gates gs = map (gateWith gates gs) (counting 0 n)
 pub gatesWith-at : (n : ℕ) (gates : List Gate) (gs : List ℕ) (v : ℕ) → v < n → getD (gatesWith n gates gs) v shut ≡ gateWith gates gs v
 gatesWith-at n gates gs v point = getD-map-counting (gateWith gates gs) 0 n v v shut point (omega arith)
 
-flows-through : (n : ℕ) (gates : List Gate) (gs : List ℕ) → length gs ≡ n → flowsOver (map (through n gates) (counting 0 n)) gs ≡ map (through n (gatesWith n gates gs)) (counting 0 n)
+flows-through : (n : ℕ) (gates : List Gate) (gs : List ℕ) → length gs ≡ n → flowsOver (gateReaches n gates) gs ≡ gateReaches n (gatesWith n gates gs)
 flows-through n gates gs long =
-    let old = map (through n gates) (counting 0 n) in
-    let new = map (through n (gatesWith n gates gs)) (counting 0 n) in
+    let old = gateReaches n gates in
+    let new = gateReaches n (gatesWith n gates gs) in
     same-lists (flowsOver old gs) new
     (length-flows old gs ∙ length-map-counting (through n gates) 0 n ∙ sym (length-map-counting (through n (gatesWith n gates gs)) 0 n))
     (λ k d within.
@@ -97,8 +97,8 @@ flows-through n gates gs long =
 pub flows-split : (s : Scheme) (gates : List Gate) (fs gs : List ℕ) → length fs ≡ length (s .reaches) → length gs ≡ s .points → withFlows (split s gates) (fs ++ gs) ≡ split (withFlows s fs) (gatesWith (s .points) gates gs)
 flows-split s gates fs gs long-fs long-gs =
     let n = s .points in
-    let low = map (between n) (s .reaches) in
-    let own = map (through n gates) (counting 0 n) in
+    let low = carriedReaches s in
+    let own = gateReaches n gates in
     ap (over (split s gates))
     (flows-append low own fs gs (long-fs ∙ sym (length-map (s .reaches) (between n)))
     ∙ ap (λ rs. rs ++ flowsOver own gs) (flows-between n (s .reaches) fs)

@@ -8,7 +8,6 @@ use native.Mathlib.Omega.{arith}
 use lib.ListN.{length, getD, set}
 use lib.Dec.{leb}
 use Rattle.std.specs.Finite.{nth}
-use Rattle.std.specs.Iters.{counting}
 use Rattle.std.specs.declared.option.Option.the-variants.{Some, None}
 use Rattle.std.proofs.shelf.Counted.{length-map-counting, getD-map-counting}
 use Rattle.std.proofs.shelf.Lists.{length-map, length-set, set-append-left, set-append-right, same-lists, getD-set-same, getD-set-other}
@@ -20,7 +19,7 @@ use Rattle.scheme.specs.Refusals.{unlisted, refused}
 use Rattle.scheme.specs.Scheme.{Scheme, changed, over}
 use Rattle.layers.specs.declared.gates.Gate.{Gate}
 use Rattle.layers.specs.declared.gates.Site.the-variants.{Below, At, Nowhere}
-use Rattle.layers.specs.Junctions.{siteOf, junction, carriable, gated, between, through, gateReach, shut, split}
+use Rattle.layers.specs.Junctions.{siteOf, junction, carriable, gated, between, through, gateReach, shut, split, carriedReaches, gateReaches}
 use Rattle.layers.proofs.Mapped.{changed-map}
 use Rattle.layers.proofs.Sites.{nth-append-left, gated-at, junction-on, length-on, placed}
 
@@ -40,10 +39,10 @@ changed-append f xs ys k within =
     [ None ↦ refl | Some r ↦ set-append-left xs ys k (f r) within ])
 
 -- the gates with one of them changed, as reaches
-set-through : (n : ℕ) (gates : List Gate) (v : ℕ) (gate : Gate) → v < n → set (map (through n gates) (counting 0 n)) v (through n (set gates v gate) v) ≡ map (through n (set gates v gate)) (counting 0 n)
+set-through : (n : ℕ) (gates : List Gate) (v : ℕ) (gate : Gate) → v < n → set (gateReaches n gates) v (through n (set gates v gate) v) ≡ gateReaches n (set gates v gate)
 set-through n gates v gate point =
-    let old = map (through n gates) (counting 0 n) in
-    let new = map (through n (set gates v gate)) (counting 0 n) in
+    let old = gateReaches n gates in
+    let new = gateReaches n (set gates v gate) in
     let this = through n (set gates v gate) v in
     same-lists (set old v this) new
     (length-set old v this ∙ length-map-counting (through n gates) 0 n ∙ sym (length-map-counting (through n (set gates v gate)) 0 n))
@@ -68,13 +67,13 @@ module _ (s : Scheme) (gates : List Gate) (on : carriable s ≡ true) (f : Reach
   written-below alike k within =
       let n = s .points in
       let rs = s .reaches in
-      let own = map (through n gates) (counting 0 n) in
+      let own = gateReaches n gates in
       let still : carriable (over s (changed f rs k)) ≡ true
       = ap (λ m. leb n 256 && leb m 8192) (length-changed f rs k) ∙ on in
       junction-on (over s (changed f rs k)) gates still
       ∙ ap (over (split s gates))
       (ap (λ xs. xs ++ own) (sym (changed-map f (between n) alike rs k))
-      ∙ sym (changed-append f (map (between n) rs) own k (omega (arith, length-map rs (between n)))))
+      ∙ sym (changed-append f (carriedReaches s) own k (omega (arith, length-map rs (between n)))))
       ∙ ap (λ t. over t (changed f (t .reaches) k)) (sym (junction-on s gates on))
 
   -- a gate changed
@@ -82,8 +81,8 @@ module _ (s : Scheme) (gates : List Gate) (on : carriable s ≡ true) (f : Reach
   written-at v gate point listed changes =
       let n = s .points in
       let rs = s .reaches in
-      let low = map (between n) rs in
-      let own = map (through n gates) (counting 0 n) in
+      let low = carriedReaches s in
+      let own = gateReaches n gates in
       let k = length rs + v in
       let this : f (through n gates v) ≡ through n (set gates v gate) v
       = changes ∙ ap (gateReach n v) (sym (getD-set-same gates v gate shut listed)) in

@@ -2,12 +2,11 @@
 use mathlib.Core.Path.{_≡_, refl, sym, ap, subst, _∙_}
 use mathlib.Core.Logic.{⊎-elim}
 use mathlib.Core.Bool.{true, false}
-use mathlib.Core.List.{List, [], _∷_, _++_, map}
+use mathlib.Core.List.{List, [], _∷_, _++_}
 use Prim.Native.Nat.{ℕ, zero, suc, _+_, _-_, _<_, _≤_}
 use native.Mathlib.Omega.{arith}
 use lib.ListN.{length}
 use Rattle.std.specs.Finite.{nth}
-use Rattle.std.specs.Iters.{counting}
 use Rattle.std.specs.Options.{mapped}
 use Rattle.std.specs.declared.option.Option.{Option}
 use Rattle.std.specs.declared.option.Option.the-variants.{Some, None}
@@ -20,7 +19,7 @@ use Rattle.scheme.specs.Scheme.{Scheme}
 use Rattle.layers.specs.declared.gates.Gate.{Gate}
 use Rattle.layers.specs.declared.gates.Site.{Site}
 use Rattle.layers.specs.declared.gates.Site.the-variants.{Below, At, Nowhere}
-use Rattle.layers.specs.Junctions.{junction, carriable, gated, between, through, siteOf, split, nothing}
+use Rattle.layers.specs.Junctions.{junction, carriable, gated, between, through, siteOf, split, nothing, carriedReaches, gateReaches}
 use Rattle.layers.proofs.Mapped.{nth-map, mapped-mapped}
 
 -- an element of two lists joined
@@ -37,19 +36,19 @@ nth-append-right (x ∷ xs) ys k = ap (nth (x ∷ (xs ++ ys))) {y = suc (length 
 module _ (s : Scheme) (gates : List Gate) where
   pub length-gated : length (gated s gates) ≡ length (s .reaches) + s .points
   length-gated =
-      length-append (map (between (s .points)) (s .reaches)) (map (through (s .points) gates) (counting 0 (s .points)))
+      length-append (carriedReaches s) (gateReaches (s .points) gates)
       ∙ omega (arith, length-map (s .reaches) (between (s .points)), length-map-counting (through (s .points) gates) 0 (s .points))
 
   pub gated-below : (k : ℕ) → k < length (s .reaches) → nth (gated s gates) k ≡ mapped (between (s .points)) (nth (s .reaches) k)
   gated-below k within =
-      nth-append-left (map (between (s .points)) (s .reaches)) (map (through (s .points) gates) (counting 0 (s .points))) k
+      nth-append-left (carriedReaches s) (gateReaches (s .points) gates) k
       (omega (arith, length-map (s .reaches) (between (s .points))))
       ∙ nth-map (between (s .points)) (s .reaches) k
 
   pub gated-at : (v : ℕ) → v < s .points → nth (gated s gates) (length (s .reaches) + v) ≡ Some (through (s .points) gates v)
   gated-at v point =
       ap (λ m. nth (gated s gates) (m + v)) (sym (length-map (s .reaches) (between (s .points))))
-      ∙ nth-append-right (map (between (s .points)) (s .reaches)) (map (through (s .points) gates) (counting 0 (s .points))) v
+      ∙ nth-append-right (carriedReaches s) (gateReaches (s .points) gates) v
       ∙ nth-getD _ v (through (s .points) gates v) (omega (arith, length-map-counting (through (s .points) gates) 0 (s .points)))
       ∙ ap Some (getD-map-counting (through (s .points) gates) 0 (s .points) v v (through (s .points) gates v) point (omega arith))
 

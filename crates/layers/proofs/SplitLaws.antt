@@ -8,7 +8,6 @@ use lib.ListN.{length, getD, take, drop}
 use lib.Dec.{leb}
 use lib.IntN.{ℤ}
 use lib.Signed.{_≤ℤ_}
-use Rattle.std.specs.Iters.{counting}
 use Rattle.std.proofs.shelf.Counted.{length-map-counting, getD-map-counting}
 use Rattle.std.proofs.shelf.Elements.{all-weaker, all-append, all-map}
 use Rattle.std.proofs.shelf.Lists.{length-append, length-drop, length-take-le, take-append-drop}
@@ -17,7 +16,7 @@ use Rattle.scheme.specs.Scheme.{Scheme, withFlows}
 use Rattle.scheme.specs.Flow.{Lawful, value}
 use Rattle.scheme.specs.Questions.{WellFormed, Joined}
 use Rattle.layers.specs.declared.gates.Gate.{Gate}
-use Rattle.layers.specs.Junctions.{junction, carriable, split, between, through, shut}
+use Rattle.layers.specs.Junctions.{junction, carriable, split, between, through, shut, carriedReaches, gateReaches}
 use Rattle.layers.specs.JunctionLaws.{passes, passing, WithinGates, LawfulUnder, Carried, LawfulBelow, ExtendsAbove, LawfulNow, GreatestAsUnder, WellFormedAbove}
 use Rattle.layers.proofs.Sites.{junction-on, length-on, length-gated}
 use Rattle.layers.proofs.LaidFlows.{formed-flows, gatesWith, gatesWith-at, flows-split}
@@ -157,7 +156,7 @@ well-formed-above s gates carried room bounded =
           let far : s .inlet ≡ s .outlet + s .points = sym in-is ∙ e ∙ out-is in
           omega (arith, formed .inlet-point);
       joined =
-          all-append (Joined (split s gates)) (map (between n) (s .reaches)) (map (through n gates) (counting 0 n))
+          all-append (Joined (split s gates)) (carriedReaches s) (gateReaches n gates)
           (all-map (Joined (split s gates)) (between n) (s .reaches)
           (all-weaker (Joined s) (λ r. Joined (split s gates) (between n r))
           (λ r j.

@@ -20,7 +20,7 @@ use Rattle.scheme.specs.Scheme.{Scheme}
 use Rattle.scheme.specs.Flow.{inflow, outflow}
 use Rattle.scheme.specs.Questions.{WellFormed, Joined}
 use Rattle.layers.specs.declared.gates.Gate.{Gate}
-use Rattle.layers.specs.Junctions.{split, gated, between, through, arrival, departure, shut}
+use Rattle.layers.specs.Junctions.{split, gated, between, through, arrival, departure, shut, carriedReaches, gateReaches}
 use Rattle.layers.proofs.Totals.{sumBy-map, sumBy-alike, total, total-alike, total-none, total-one}
 
 -- tests of numbers
@@ -58,31 +58,38 @@ left-only all low own = omega arith
 right-only : {a b c x : ℕ} → a ≡ b + c → b ≡ 0 → c ≡ x → a ≡ x
 right-only all low own = omega arith
 
+-- the flows of a junction's reaches that pass a test: of those below, and of the gates
+
+abbrev carriedFlow : Scheme → (Reach → Bool) → ℕ
+carriedFlow s test = sumBy (λ r. cond (test (between (s .points) r)) (r .flow) 0) (s .reaches)
+
+abbrev gateFlow : Scheme → List Gate → (Reach → Bool) → ℕ
+gateFlow s gates test = total (λ v. cond (test (through (s .points) gates v)) (getD gates v shut .flow) 0) (s .points)
+
 module _ (s : Scheme) (gates : List Gate) (formed : WellFormed s) where
-  -- the flows of a junction's reaches that pass a test: of those below, and of the gates
-  by-parts : (test : Reach → Bool) → sumBy (λ r. cond (test r) (r .flow) 0) (gated s gates) ≡ sumBy (λ r. cond (test (between (s .points) r)) (r .flow) 0) (s .reaches) + total (λ v. cond (test (through (s .points) gates v)) (getD gates v shut .flow) 0) (s .points)
+  by-parts : (test : Reach → Bool) → sumBy (λ r. cond (test r) (r .flow) 0) (gated s gates) ≡ carriedFlow s test + gateFlow s gates test
   by-parts test =
       let f : Reach → ℕ = λ r. cond (test r) (r .flow) 0 in
-      sumBy-append f (map (between (s .points)) (s .reaches)) (map (through (s .points) gates) (counting 0 (s .points)))
-      ∙ ap (λ k. k + sumBy f (map (through (s .points) gates) (counting 0 (s .points)))) (sumBy-map f (between (s .points)) (s .reaches))
-      ∙ ap (λ k. sumBy (λ r. cond (test (between (s .points) r)) (r .flow) 0) (s .reaches) + k) (sumBy-counted f (through (s .points) gates) (s .points))
+      sumBy-append f (carriedReaches s) (gateReaches (s .points) gates)
+      ∙ ap (λ k. k + sumBy f (gateReaches (s .points) gates)) (sumBy-map f (between (s .points)) (s .reaches))
+      ∙ ap (λ k. carriedFlow s test + k) (sumBy-counted f (through (s .points) gates) (s .points))
 
-  below-as : (test alike : Reach → Bool) → ((r : Reach) → Joined s r → test (between (s .points) r) ≡ alike r) → sumBy (λ r. cond (test (between (s .points) r)) (r .flow) 0) (s .reaches) ≡ sumBy (λ r. cond (alike r) (r .flow) 0) (s .reaches)
+  below-as : (test alike : Reach → Bool) → ((r : Reach) → Joined s r → test (between (s .points) r) ≡ alike r) → carriedFlow s test ≡ sumBy (λ r. cond (alike r) (r .flow) 0) (s .reaches)
   below-as test alike is =
       sumBy-alike (λ r. cond (test (between (s .points) r)) (r .flow) 0) (λ r. cond (alike r) (r .flow) 0) (s .reaches)
       (all-weaker (Joined s) (λ r. cond (test (between (s .points) r)) (r .flow) 0 ≡ cond (alike r) (r .flow) 0)
       (λ r j. ap (λ b. cond b (r .flow) 0) (is r j)) (s .reaches) (formed .joined))
 
-  none-below : (test : Reach → Bool) → ((r : Reach) → Joined s r → test (between (s .points) r) ≡ false) → sumBy (λ r. cond (test (between (s .points) r)) (r .flow) 0) (s .reaches) ≡ 0
+  none-below : (test : Reach → Bool) → ((r : Reach) → Joined s r → test (between (s .points) r) ≡ false) → carriedFlow s test ≡ 0
   none-below test fails = below-as test (λ r. false) fails ∙ sumBy-none (s .reaches)
 
-  gates-as : (test : Reach → Bool) (alike : ℕ → Bool) → ((v : ℕ) → v < s .points → test (through (s .points) gates v) ≡ alike v) → total (λ v. cond (test (through (s .points) gates v)) (getD gates v shut .flow) 0) (s .points) ≡ total (λ v. cond (alike v) (getD gates v shut .flow) 0) (s .points)
+  gates-as : (test : Reach → Bool) (alike : ℕ → Bool) → ((v : ℕ) → v < s .points → test (through (s .points) gates v) ≡ alike v) → gateFlow s gates test ≡ total (λ v. cond (alike v) (getD gates v shut .flow) 0) (s .points)
   gates-as test alike is = total-alike _ _ (s .points) (λ v point. ap (λ b. cond b (getD gates v shut .flow) 0) (is v point))
 
-  no-gate : (test : Reach → Bool) → ((v : ℕ) → v < s .points → test (through (s .points) gates v) ≡ false) → total (λ v. cond (test (through (s .points) gates v)) (getD gates v shut .flow) 0) (s .points) ≡ 0
+  no-gate : (test : Reach → Bool) → ((v : ℕ) → v < s .points → test (through (s .points) gates v) ≡ false) → gateFlow s gates test ≡ 0
   no-gate test fails = gates-as test (λ v. false) fails ∙ total-none (s .points)
 
-  one-gate : (test : Reach → Bool) (v : ℕ) → v < s .points → ((u : ℕ) → u < s .points → test (through (s .points) gates u) ≡ eqb v u) → total (λ u. cond (test (through (s .points) gates u)) (getD gates u shut .flow) 0) (s .points) ≡ getD gates v shut .flow
+  one-gate : (test : Reach → Bool) (v : ℕ) → v < s .points → ((u : ℕ) → u < s .points → test (through (s .points) gates u) ≡ eqb v u) → gateFlow s gates test ≡ getD gates v shut .flow
   one-gate test v point is = gates-as test (eqb v) is ∙ total-one (λ u. getD gates u shut .flow) v (s .points) point
 
   module _ (v : ℕ) (point : v < s .points) where

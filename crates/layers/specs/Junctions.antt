@@ -36,9 +36,15 @@ shut = record { limit = 0; flow = 0 }
 abbrev pub through : ℕ → List Gate → ℕ → Reach
 through n gates v = gateReach n v (getD gates v shut)
 
--- the reaches below, in their order, and then the gates, in that of their points
+-- the reaches below, in their order, and the gates of n points, in theirs
+abbrev pub carriedReaches : Scheme → List Reach
+carriedReaches s = map (between (s .points)) (s .reaches)
+
+abbrev pub gateReaches : ℕ → List Gate → List Reach
+gateReaches n gates = map (through n gates) (counting 0 n)
+
 abbrev pub gated : Scheme → List Gate → List Reach
-gated s gates = map (between (s .points)) (s .reaches) ++ map (through (s .points) gates) (counting 0 (s .points))
+gated s gates = carriedReaches s ++ gateReaches (s .points) gates
 
 -- What a junction can stand on: at most 256 points and 8,192 reaches.
 abbrev pub carriable : Scheme → Bool

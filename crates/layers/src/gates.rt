@@ -1,7 +1,7 @@
 // The gates of a junction, one for each point, and where its reaches are kept.
 ghost use mathlib.Core.Path.{_≡_};
 ghost use Prim.Native.Nat.{_≤_};
-ghost use Rattle.layers.specs.Junctions.{freshGate, freshGates, arrival, departure};
+ghost use Rattle.layers.specs.Junctions.{freshGates, arrival, departure};
 
 // The most points, each with a gate, and the most reaches that a junction can stand on.
 pub(crate) const GATES: usize = 256;
@@ -15,35 +15,30 @@ pub(crate) const OPEN_LIMIT: u32 = 1_000_000;
 pub(crate) const NO_POINT: u16 = 65_535;
 
 // What may pass a point, and what passes it.
-#[derive(Clone, Copy, PartialEq, Eq, Debug)]
+#[derive(Clone, Copy)]
 pub(crate) struct Gate {
     pub limit: u32,
     pub flow: u32,
 }
 
 // Where a junction has a reach: in the register below, under the same number, or at a point's gate.
-#[derive(Clone, Copy, PartialEq, Eq, Debug)]
+#[derive(Clone, Copy)]
 pub(crate) enum Site {
     Below,
     At(u8),
     Nowhere,
 }
 
-fn fresh_gate(limits: &[u32], point: usize) -> Gate
-    ensures { λ r. ⌜ r ≡ freshGate (now (limits .entry)) point ⌝ }
-{
-    Gate {
-        limit: limits.get(point).copied().unwrap_or(OPEN_LIMIT),
-        flow: 0,
-    }
-}
-
+// Gates with these limits, in point order, that nothing passes yet.
 pub(crate) fn fresh_gates(limits: &[u32]) -> [Gate; GATES]
     ensures { λ r. ⌜ r ≡ freshGates (now (limits .entry)) ⌝ }
 {
-    let mut gates = [Gate { limit: 0, flow: 0 }; GATES];
-    for v in 0..GATES {
-        gates[v] = fresh_gate(limits, v);
+    let mut gates = [Gate {
+        limit: OPEN_LIMIT,
+        flow: 0,
+    }; GATES];
+    for v in 0..limits.len().min(GATES) {
+        gates[v].limit = limits[v];
     }
     gates
 }

@@ -1,7 +1,6 @@
 use mathlib.Core.Path.{refl, ap, _∙_}
-use Prim.Native.Nat.{_<_}
 use borrow.Author.Needs.{needs}
-use lib.ListN.{length, getD, set}
+use lib.ListN.{getD, set}
 use Rattle.scheme.specs.Scheme.{flowing}
 use Rattle.layers.specs.Junctions.{junction, shut}
 use Rattle.layers.proofs.SiteWrites.{below-answer, at-answer, nowhere-answer, below-after, at-after, nowhere-after}
@@ -26,12 +25,11 @@ returns-in-At g c =
     let x = c .args .flow in
     let v = c .in-At .point in
     let here = c .in-At .ensures tt in
-    let held : v < length (j .gates) = search needs in
     record {
       answer = at-answer s (j .gates) (c .args .reach) v here;
       after =
           ap (λ i. junction s (set (j .gates) i record { limit = getD (j .gates) i shut .limit; flow = x })) (c .from .ensures)
-          ∙ at-after s (j .gates) (c .args .reach) (flowing x) v (record { limit = getD (j .gates) v shut .limit; flow = x }) here held refl;
+          ∙ at-after s (j .gates) (c .args .reach) (flowing x) v (record { limit = getD (j .gates) v shut .limit; flow = x }) here (search needs) refl;
     }
 
 pub returns-in-Nowhere : need.returns-in-Nowhere
