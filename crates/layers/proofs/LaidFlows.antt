@@ -34,10 +34,11 @@ flows-append [] ys (f ∷ fs) gs long = absurd (omega arith)
 flows-append (x ∷ xs) ys [] gs long = absurd (omega arith)
 flows-append (x ∷ xs) ys (f ∷ fs) gs long = ap (λ rest. flowing f x ∷ rest) (flows-append xs ys fs gs (omega arith))
 
-flows-between : (n : ℕ) (rs : List Reach) (fs : List ℕ) → flowsOver (map (between n) rs) fs ≡ map (between n) (flowsOver rs fs)
-flows-between n [] fs = refl
-flows-between n (r ∷ rs) [] = refl
-flows-between n (r ∷ rs) (f ∷ fs) = ap (λ rest. between n (flowing f r) ∷ rest) (flows-between n rs fs)
+-- over reaches that were all changed alike
+pub flows-map : (t : Reach → Reach) → ((f : ℕ) (r : Reach) → flowing f (t r) ≡ t (flowing f r)) → (rs : List Reach) (fs : List ℕ) → flowsOver (map t rs) fs ≡ map t (flowsOver rs fs)
+flows-map t alike [] fs = refl
+flows-map t alike (r ∷ rs) [] = refl
+flows-map t alike (r ∷ rs) (f ∷ fs) = ap (λ x. x ∷ flowsOver (map t rs) fs) (alike f r) ∙ ap (λ rest. t (flowing f r) ∷ rest) (flows-map t alike rs fs)
 
 joined-flows : (s : Scheme) (rs : List Reach) (fs : List ℕ) → All (Joined s) rs → All (Joined s) (flowsOver rs fs)
 joined-flows s [] fs all = tt
@@ -101,5 +102,5 @@ flows-split s gates fs gs long-fs long-gs =
     let own = gateReaches n gates in
     ap (over (split s gates))
     (flows-append low own fs gs (long-fs ∙ sym (length-map (s .reaches) (between n)))
-    ∙ ap (λ rs. rs ++ flowsOver own gs) (flows-between n (s .reaches) fs)
+    ∙ ap (λ rs. rs ++ flowsOver own gs) (flows-map (between n) (λ f r. refl) (s .reaches) fs)
     ∙ ap (λ rs. map (between n) (flowsOver (s .reaches) fs) ++ rs) (flows-through n gates gs long-gs))

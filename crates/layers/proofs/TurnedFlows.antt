@@ -4,17 +4,20 @@ use mathlib.Core.Bool.{true, false, cond, not, _&&_}
 use mathlib.Core.List.{List, [], _∷_, map}
 use Prim.Native.Nat.{ℕ, _+_, _≤_}
 use lib.Dec.{eqb}
+use lib.IntN.{ℤ}
+use lib.Signed.{_≤ℤ_}
 use native.Mathlib.Omega.{arith}
 use Rattle.std.specs.shelf.Lists.{sumBy, All}
 use Rattle.std.proofs.shelf.Elements.{all-map, all-weaker}
 use Rattle.std.proofs.shelf.Lists.{length-map}
 use Rattle.std.proofs.shelf.Tests.{not-true, not-false, not-from-true, not-from-false}
 use Rattle.scheme.specs.declared.rows.Reach.{Reach}
-use Rattle.scheme.specs.Scheme.{Scheme, over}
-use Rattle.scheme.specs.Flow.{Lawful, inflow, outflow, Points, leaves}
+use Rattle.scheme.specs.Scheme.{Scheme, over, withFlows}
+use Rattle.scheme.specs.Flow.{Lawful, value, inflow, outflow, Points, leaves, Greatest}
 use Rattle.scheme.specs.Questions.{WellFormed, Joined}
 use Rattle.layers.specs.Turns.{turned, turnedReach}
-use Rattle.layers.specs.TurnLaws.{TurnedTwiceIsItself, LawfulAboveAsBelow, ValueAsBelow, SideIfRestIs, CapacityOfRest, WellFormedAsBelow, rest}
+use Rattle.layers.specs.TurnLaws.{TurnedTwiceIsItself, LawfulAboveAsBelow, ValueAsBelow, SideIfRestIs, CapacityOfRest, WellFormedAsBelow, GreatestAsBelow, rest}
+use Rattle.layers.proofs.LaidFlows.{flows-map, formed-flows}
 use Rattle.layers.proofs.Totals.{sumBy-map, sumBy-alike, total, total-one, total-sumBy, differ-at-two, subℕ-alike}
 
 -- turning twice
@@ -99,6 +102,39 @@ value-as-below s formed lawful =
     rw (outflow-turned s (s .outlet), inflow-turned s (s .outlet))
     (subℕ-alike (inflow s (s .outlet)) (outflow s (s .outlet)) (outflow s (s .inlet)) (inflow s (s .inlet))
     (omega (arith, ends-balance s formed lawful)))
+
+-- the greatest value
+
+flows-turned : (s : Scheme) (fs : List ℕ) → withFlows (turned s) fs ≡ turned (withFlows s fs)
+flows-turned s fs = ap (over (turned s)) (flows-map turnedReach (λ f r. refl) (s .reaches) fs)
+
+laid-down : (s : Scheme) (fs : List ℕ) → Lawful (withFlows (turned s) fs) → Lawful (withFlows s fs)
+laid-down s fs lawful = lawful-above-as-below (withFlows s fs) .0 (subst Lawful (flows-turned s fs) lawful)
+
+laid-value : (s : Scheme) (fs : List ℕ) → WellFormed s → Lawful (withFlows s fs) → value (withFlows (turned s) fs) ≡ value (withFlows s fs)
+laid-value s fs formed lawful = ap value (flows-turned s fs) ∙ value-as-below (withFlows s fs) (formed-flows s fs formed) lawful
+
+greatest-down : (s : Scheme) (z : ℤ) → WellFormed s → Greatest (turned s) z → Greatest s z
+greatest-down s z formed greatest =
+    let lawful = laid-down s (greatest .flows) (greatest .lawful) in
+    record {
+      flows = greatest .flows;
+      covers = greatest .covers ∙ length-map (s .reaches) turnedReach;
+      lawful = lawful;
+      reached = sym (laid-value s (greatest .flows) formed lawful) ∙ greatest .reached;
+      most =
+          λ fs long below.
+          subst (λ x. x ≤ℤ z) (laid-value s fs formed below)
+          (greatest .most fs (long ∙ sym (length-map (s .reaches) turnedReach))
+          (subst Lawful (sym (flows-turned s fs)) (lawful-turned (withFlows s fs) below)));
+    }
+
+pub greatest-as-below : GreatestAsBelow
+greatest-as-below s z formed = (
+  greatest-down s z formed,
+  λ greatest.
+      greatest-down (turned s) z (well-formed-as-below s formed) (subst (λ t. Greatest t z) (sym (turned-twice s)) greatest),
+)
 
 -- sides
 

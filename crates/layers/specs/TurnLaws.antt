@@ -1,8 +1,9 @@
 -- What turning a register round does to its flows and its sides.
 use mathlib.Core.Path.{_≡_}
 use mathlib.Core.Bool.{not}
+use lib.IntN.{ℤ}
 use Rattle.scheme.specs.Scheme.{Scheme}
-use Rattle.scheme.specs.Flow.{Lawful, value, Points, Side, capacity}
+use Rattle.scheme.specs.Flow.{Lawful, value, Points, Side, capacity, Greatest}
 use Rattle.scheme.specs.Questions.{WellFormed}
 use Rattle.layers.specs.Turns.{turned}
 
@@ -17,6 +18,10 @@ LawfulAboveAsBelow = (s : Scheme) → (Lawful (turned s) → Lawful s) × (Lawfu
 -- What leaves the inlet, net, is what enters the outlet, net: the value is the same from either end.
 abbrev pub ValueAsBelow : Type 0
 ValueAsBelow = (s : Scheme) → WellFormed s → Lawful s → value (turned s) ≡ value s
+
+-- so the greatest value is the same too
+abbrev pub GreatestAsBelow : Type 0
+GreatestAsBelow = (s : Scheme) (z : ℤ) → WellFormed s → (Greatest (turned s) z → Greatest s z) × (Greatest s z → Greatest (turned s) z)
 
 -- the points that a set leaves out
 abbrev pub rest : Points → Points

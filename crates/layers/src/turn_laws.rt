@@ -1,5 +1,5 @@
 // The laws of turning a register round. Each function's contract is the law.
-ghost use Rattle.layers.specs.TurnLaws.{TurnedTwiceIsItself, LawfulAboveAsBelow, ValueAsBelow, SideIfRestIs, CapacityOfRest, WellFormedAsBelow};
+ghost use Rattle.layers.specs.TurnLaws.{TurnedTwiceIsItself, LawfulAboveAsBelow, ValueAsBelow, GreatestAsBelow, SideIfRestIs, CapacityOfRest, WellFormedAsBelow};
 
 pub fn turning_twice_restores()
     ensures { λ _. ⌜ TurnedTwiceIsItself ⌝ }
@@ -15,6 +15,10 @@ pub fn turning_keeps_lawfulness()
 
 pub fn turning_keeps_value()
     ensures { λ _. ⌜ ValueAsBelow ⌝ }
+{}
+
+pub fn turning_keeps_greatest_value()
+    ensures { λ _. ⌜ GreatestAsBelow ⌝ }
 {}
 
 pub fn turning_swaps_sides()
