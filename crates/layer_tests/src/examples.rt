@@ -1,0 +1,45 @@
+// Worked examples.
+use scheme::Reach;
+use scheme::Table;
+use std::alloc::AllocError;
+use std::alloc::Global;
+
+// A reach that carries nothing: tail, head and limit.
+pub type Dry = (u16, u16, u32);
+
+// Four points, inlet 0, outlet 3.
+pub const EXAMPLE: [Dry; 5] = [(0, 1, 5), (0, 2, 4), (1, 2, 3), (1, 3, 2), (2, 3, 6)];
+
+pub fn example(heap: Global) -> Result<Table, AllocError> {
+    table(heap, 4, 0, 3, &EXAMPLE)
+}
+
+pub fn table(
+    heap: Global,
+    points: u16,
+    inlet: u16,
+    outlet: u16,
+    reaches: &[Dry],
+) -> Result<Table, AllocError> {
+    let mut rows = Vec::new(heap);
+    for (tail, head, limit) in reaches {
+        rows.push(Reach {
+            tail: *tail,
+            head: *head,
+            limit: *limit,
+            flow: 0,
+        })?;
+    }
+    Ok(Table::new(points, inlet, outlet, rows))
+}
+
+// Two points and as many twin reaches as are asked for.
+pub fn twins(heap: Global, reaches: usize) -> Result<Table, AllocError> {
+    let twin = Reach {
+        tail: 0,
+        head: 1,
+        limit: 1,
+        flow: 0,
+    };
+    Ok(Table::new(2, 0, 1, vec![in heap; twin; reaches]?))
+}

@@ -1,0 +1,11 @@
+pub mod Mapped
+pub mod Refused
+pub mod Turning
+pub mod Totals
+pub mod TurnedFlows
+pub mod Sites
+pub mod SiteWrites
+pub mod Splits
+pub mod SplitFlows
+pub mod LaidFlows
+pub mod SplitLaws

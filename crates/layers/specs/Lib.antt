@@ -1,0 +1,4 @@
+pub mod JunctionLaws
+pub mod Junctions
+pub mod Turns
+pub mod TurnLaws
