@@ -30,11 +30,15 @@ def note(text):
 EXAMPLE = [(0, 1, 5, 0), (0, 2, 4, 0), (1, 2, 3, 0), (1, 3, 2, 0), (2, 3, 6, 0)]
 SETTLED = [(0, 1, 5, 4), (0, 2, 4, 4), (1, 2, 3, 2), (1, 3, 2, 2), (2, 3, 6, 6)]
 
+# the example with limit 7 on its last reach, and a flow that fills every reach
+PUBLISHED = [(0, 1, 5, 5), (0, 2, 4, 4), (1, 2, 3, 3), (1, 3, 2, 2), (2, 3, 7, 7)]
+
 FILES = {
     "example": head(4, 0, 3) + rows(EXAMPLE),
     "cut": (head(4, 0, 3) + rows(EXAMPLE))[:77],
     "noted": head(4, 0, 3) + note("before") + rows(SETTLED) + note("") + note("after"),
     "two_blocks": head(4, 0, 3) + rows(EXAMPLE) + rows([]),
+    "published": head(4, 0, 3) + rows(PUBLISHED),
 }
 
 
@@ -76,6 +80,7 @@ if __name__ == "__main__":
     for name, data in FILES.items():
         (HERE / f"{name}.scheme").write_bytes(data)
         (LIST / "data" / f"{name}.scheme").write_bytes(data)
+    Path("crates/review/stdin").write_bytes(FILES["published"])
     files = sorted((LIST / "data").glob("*.scheme"))
     (LIST / "args").write_text("".join(f"{f.name}\n" for f in files))
     (LIST / "stdout").write_text("".join(line + "\n" for f in files for line in [f.name] + listing(f.read_bytes())))

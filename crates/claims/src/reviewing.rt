@@ -1,11 +1,6 @@
 // The review of a claim: the file is read, and its flow and the side are put to the check.
 ghost use mathlib.Core.Path.{_≡_};
-ghost use Rattle.std.specs.Vec.{made};
-ghost use Rattle.scheme.specs.Refusals.{bookRefusal, refusalOf};
 ghost use Rattle.scheme.specs.declared.faults.CallFault.the-variants.{InBook};
-ghost use Rattle.scheme_file.specs.Asked.{fileFault};
-ghost use Rattle.scheme_file.specs.Files.{fileScheme};
-ghost use Rattle.scheme_file.specs.Layout.{Means};
 ghost use Rattle.claims.specs.Reviews.{Reviewed};
 ghost use Rattle.claims.specs.declared.reviewing.Stop.the-variants.{Refused, Memory};
 use crate::marks::marks_of;
@@ -13,7 +8,6 @@ use scheme::BookFault;
 use scheme::CallFault;
 use scheme::Register;
 use scheme::check;
-use scheme::faults::BookFaultFromFile;
 use scheme::faults::CallFaultDebug;
 use scheme::faults::CallFaultFromBook;
 use scheme::faults::CallFaultPartialEq;
@@ -64,19 +58,11 @@ pub impl From<AllocError> for Stop as StopFromAlloc {
     }
 }
 
-// The file as a book, with its fault inside a book's.
-fn opened(bytes: &mut [u8]) -> Result<SchemeFile<'_>, BookFault>
-    ensures fault { λ r. ⌜ refusalOf bookRefusal r ≡ fileFault (now (bytes .entry)) ⌝ }
-    ensures means { λ r. ⌜ made r (λ f. Means (now (bytes .entry)) (fileScheme f)) ⌝ }
-{
-    Ok(SchemeFile::open(bytes)?)
-}
-
 // Reviews the claim that these points are a side which holds down the flow in this file.
 pub fn review(heap: Global, bytes: &mut [u8], side: &[u16]) -> Result<Claim, Stop>
     ensures { λ r. ⌜ Reviewed (now (bytes .entry)) (now (side .entry)) r ⌝ }
 {
-    let file = opened(bytes)?;
+    let file = SchemeFile::open_book(bytes)?;
     let points = file.points();
     let marks = marks_of(heap, points, side)?;
     check(&file, marks.as_slice())?;

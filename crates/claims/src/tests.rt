@@ -7,13 +7,84 @@ use std::test::*;
 // Four points, inlet 0, outlet 3; reaches 0→1, 0→2, 1→2, 1→3 and 2→3 of limits 5 4 3 2 7, all full. The numbers
 // are two or four bytes long, the low byte first.
 const PUBLISHED: [u8; 78] = [
-    6, 0, 0, 0, 1, 0, 4, 0, 0, 0, 3, 0, // head
-    60, 0, 0, 0, 2, 0, // rows
-    0, 0, 1, 0, 5, 0, 0, 0, 5, 0, 0, 0, //
-    0, 0, 2, 0, 4, 0, 0, 0, 4, 0, 0, 0, //
-    1, 0, 2, 0, 3, 0, 0, 0, 3, 0, 0, 0, //
-    1, 0, 3, 0, 2, 0, 0, 0, 2, 0, 0, 0, //
-    2, 0, 3, 0, 7, 0, 0, 0, 7, 0, 0, 0,
+    6,
+    0,
+    0,
+    0,
+    1,
+    0,
+    4,
+    0,
+    0,
+    0,
+    3,
+    0, // head
+    60,
+    0,
+    0,
+    0,
+    2,
+    0, // rows
+    0,
+    0,
+    1,
+    0,
+    5,
+    0,
+    0,
+    0,
+    5,
+    0,
+    0,
+    0, //
+    0,
+    0,
+    2,
+    0,
+    4,
+    0,
+    0,
+    0,
+    4,
+    0,
+    0,
+    0, //
+    1,
+    0,
+    2,
+    0,
+    3,
+    0,
+    0,
+    0,
+    3,
+    0,
+    0,
+    0, //
+    1,
+    0,
+    3,
+    0,
+    2,
+    0,
+    0,
+    0,
+    2,
+    0,
+    0,
+    0, //
+    2,
+    0,
+    3,
+    0,
+    7,
+    0,
+    0,
+    0,
+    7,
+    0,
+    0,
+    0,
 ];
 
 // What is printed of a claim about the first bytes of the file.
@@ -30,7 +101,10 @@ fn told(heap: Global, length: usize, side: &[u16]) -> Result<String, Fail> {
 #[test]
 fn a_true_claim(rt: LibcRuntime) -> Result<(), Fail> {
     let text = told(rt.alloc(), 78, &[1, 0, 2])?;
-    check_eq(text.as_str(), "points 4\nreaches 5\nvalue 9\nside 0 1 2\naccepted")
+    check_eq(
+        text.as_str(),
+        "points 4\nreaches 5\nvalue 9\nside 0 1 2\naccepted",
+    )
 }
 
 #[test]

@@ -10,6 +10,88 @@ pub type Dry = (u16, u16, u32);
 // Four points, inlet 0, outlet 3.
 pub const EXAMPLE: [Dry; 5] = [(0, 1, 5), (0, 2, 4), (1, 2, 3), (1, 3, 2), (2, 3, 6)];
 
+// The same as a scheme file: the low byte of a number comes first.
+pub const EXAMPLE_FILE: [u8; 78] = [
+    6,
+    0,
+    0,
+    0,
+    1,
+    0,
+    4,
+    0,
+    0,
+    0,
+    3,
+    0, // head
+    60,
+    0,
+    0,
+    0,
+    2,
+    0, // rows
+    0,
+    0,
+    1,
+    0,
+    5,
+    0,
+    0,
+    0,
+    0,
+    0,
+    0,
+    0, //
+    0,
+    0,
+    2,
+    0,
+    4,
+    0,
+    0,
+    0,
+    0,
+    0,
+    0,
+    0, //
+    1,
+    0,
+    2,
+    0,
+    3,
+    0,
+    0,
+    0,
+    0,
+    0,
+    0,
+    0, //
+    1,
+    0,
+    3,
+    0,
+    2,
+    0,
+    0,
+    0,
+    0,
+    0,
+    0,
+    0, //
+    2,
+    0,
+    3,
+    0,
+    6,
+    0,
+    0,
+    0,
+    0,
+    0,
+    0,
+    0,
+];
+
 pub fn example(heap: Global) -> Result<Table, AllocError> {
     table(heap, 4, 0, 3, &EXAMPLE)
 }
