@@ -86,7 +86,14 @@ module _ (s : Scheme) where
 
   shaped-decides : Decides (shaped s) Shaped
   shaped-decides = (
-    λ e. record { some-points = grind (arith, tells); few-points = grind (arith, tells); few-reaches = grind (arith, tells); inlet-point = grind (arith, tells); outlet-point = grind (arith, tells); apart = grind (arith, tells) },
+    λ e. record {
+      some-points = grind (arith, tells);
+      few-points = grind (arith, tells);
+      few-reaches = grind (arith, tells);
+      inlet-point = grind (arith, tells);
+      outlet-point = grind (arith, tells);
+      apart = grind (arith, tells);
+    },
     λ h. grind (arith, tells),
   )
 
@@ -106,10 +113,29 @@ module _ (s : Scheme) where
   FormParts = Shaped × All (Joined s) (s .reaches)
 
   well-formed : FormParts → WellFormed s
-  well-formed h = record { some-points = h .0 .some-points; few-points = h .0 .few-points; few-reaches = h .0 .few-reaches; inlet-point = h .0 .inlet-point; outlet-point = h .0 .outlet-point; apart = h .0 .apart; joined = h .1 }
+  well-formed h =
+      record {
+        some-points = h .0 .some-points;
+        few-points = h .0 .few-points;
+        few-reaches = h .0 .few-reaches;
+        inlet-point = h .0 .inlet-point;
+        outlet-point = h .0 .outlet-point;
+        apart = h .0 .apart;
+        joined = h .1;
+      }
 
   form-parts : WellFormed s → FormParts
-  form-parts w = (record { some-points = w .some-points; few-points = w .few-points; few-reaches = w .few-reaches; inlet-point = w .inlet-point; outlet-point = w .outlet-point; apart = w .apart }, w .joined)
+  form-parts w =
+      let shape : Shaped =
+      record {
+        some-points = w .some-points;
+        few-points = w .few-points;
+        few-reaches = w .few-reaches;
+        inlet-point = w .inlet-point;
+        outlet-point = w .outlet-point;
+        apart = w .apart;
+      } in
+      (shape, w .joined)
 
   shape-means : Means (askShape s) Shaped
   shape-means = test-means (shaped s) _ shaped-decides

@@ -23,7 +23,9 @@ field-or f [] k = refl
 field-or f (r ∷ rs) zero = refl
 field-or f (r ∷ rs) (suc k) = field-or f rs k
 
-pub field-read : (f : Reach → ℕ) (rs : List Reach) (k : ℕ) (o : Option ℕ) (x : ℕ) → x ≡ valueOr o (f noReach) → o ≡ mapped f (nth rs k) → x ≡ f (getD rs k noReach)
+pub field-read :
+    (f : Reach → ℕ) (rs : List Reach) (k : ℕ) (o : Option ℕ) (x : ℕ) → x ≡ valueOr o (f noReach)
+    → o ≡ mapped f (nth rs k) → x ≡ f (getD rs k noReach)
 field-read f rs k o x given read = given ∙ ap (λ o. valueOr o (f noReach)) read ∙ field-or f rs k
 
 pub getD-from-nth : {X : Type 0} (xs : List X) (i : ℕ) (d : X) → valueOr (nth xs i) d ≡ getD xs i d

@@ -30,6 +30,8 @@ accepted-best s marks accepted =
     meet-best s (marked marks) (parts .0 .0) (law .0) (side .side) (law .1)
 
 -- the same, of what the check answers
-pub check-best : (s : Scheme) (marks : List ℕ) (r : Result (Unit {0}) CallFault) → refusalOf callRefusal r ≡ firstNo (checkQuestions s marks) → isOk r ≡ true → Meet s (marked marks)
+pub check-best :
+    (s : Scheme) (marks : List ℕ) (r : Result (Unit {0}) CallFault)
+    → refusalOf callRefusal r ≡ firstNo (checkQuestions s marks) → isOk r ≡ true → Meet s (marked marks)
 check-best s marks (Ok x) told ok = accepted-best s marks (sym told)
 check-best s marks (Err fault) told ok = absurd (false≢true ok)

@@ -20,7 +20,7 @@ use Rattle.scheme.specs.Refusals.{callRefusal, refusalOf}
 use Rattle.scheme.specs.Scheme.{Scheme}
 use Rattle.scheme.specs.Flow.{Side, Lawful, value, capacity, inflow, outflow}
 use Rattle.scheme.specs.Questions.{firstNo, bookQuestions, WellFormed}
-use Rattle.scheme.specs.Marks.{marked, fitting, allBits, sided, isNumber, tight, MarksSide, sideQuestions, checkQuestions}
+use Rattle.scheme.specs.Marks.{ReviewDecides, marked, fitting, allBits, sided, isNumber, tight, MarksSide, sideQuestions, checkQuestions}
 use Rattle.scheme.proofs.Asked.{Means, accepted-means, append-means, book-means, or-means, test-means, yes-means, means-like}
 
 -- b is the answer to P
@@ -92,6 +92,8 @@ module _ (s : Scheme) (marks : List ℕ) where
       (or-means _ _ (test-means (sided s marks) _ (sided-decides s marks)) (or-means _ _ (test-means (tight s marks) _ (number-decides (value s) _)) yes-means))
       )
 
-  pub check-law : (r : Result (Unit {0}) CallFault) → refusalOf callRefusal r ≡ firstNo (checkQuestions s marks) → WellFormed s → MarksSide s marks → Decides (isOk r) (Lawful s × Tight)
+  pub check-law :
+      (r : Result (Unit {0}) CallFault) → refusalOf callRefusal r ≡ firstNo (checkQuestions s marks)
+      → ReviewDecides s marks (isOk r)
   check-law r told form side =
       decides-like (isOk r) (λ h. (h .0 .1, h .1 .1)) (λ h. ((form, h .0), (side, h .1))) (accepted-means callRefusal r _ told check-means)
