@@ -21,7 +21,8 @@ use Rattle.scheme.specs.Flow.{inflow, outflow}
 use Rattle.scheme.specs.Questions.{WellFormed, Joined}
 use Rattle.layers.specs.declared.gates.Gate.{Gate}
 use Rattle.layers.specs.Junctions.{split, gated, between, through, arrival, departure, shut, carriedReaches, gateReaches}
-use Rattle.layers.proofs.Totals.{sumBy-map, sumBy-alike, total, total-alike, total-none, total-one}
+use Rattle.scheme.proofs.SumLaws.{sumBelow, sumBy-same, below-same, below-none, below-one}
+use Rattle.layers.proofs.Totals.{sumBy-map}
 
 -- tests of numbers
 
@@ -44,7 +45,7 @@ sumBy-none : {X : Type 0} (xs : List X) → sumBy (λ x. 0) xs ≡ 0
 sumBy-none [] = refl
 sumBy-none (x ∷ xs) = sumBy-cons (λ x. 0) x xs ∙ omega (arith, sumBy-none xs)
 
-sumBy-counted : {X : Type 0} (f : X → ℕ) (t : ℕ → X) (n : ℕ) → sumBy f (map t (counting 0 n)) ≡ total (λ v. f (t v)) n
+sumBy-counted : {X : Type 0} (f : X → ℕ) (t : ℕ → X) (n : ℕ) → sumBy f (map t (counting 0 n)) ≡ sumBelow n (λ v. f (t v))
 sumBy-counted f t zero = refl
 sumBy-counted f t (suc n) =
     ap (λ k. sumBy f (map t (counting 0 k))) {x = suc n} {y = n + 1} (omega arith)
@@ -64,7 +65,7 @@ abbrev carriedFlow : Scheme → (Reach → Bool) → ℕ
 carriedFlow s test = sumBy (λ r. cond (test (between (s .points) r)) (r .flow) 0) (s .reaches)
 
 abbrev gateFlow : Scheme → List Gate → (Reach → Bool) → ℕ
-gateFlow s gates test = total (λ v. cond (test (through (s .points) gates v)) (getD gates v shut .flow) 0) (s .points)
+gateFlow s gates test = sumBelow (s .points) (λ v. cond (test (through (s .points) gates v)) (getD gates v shut .flow) 0)
 
 module _ (s : Scheme) (gates : List Gate) (formed : WellFormed s) where
   by-parts : (test : Reach → Bool) → sumBy (λ r. cond (test r) (r .flow) 0) (gated s gates) ≡ carriedFlow s test + gateFlow s gates test
@@ -76,21 +77,21 @@ module _ (s : Scheme) (gates : List Gate) (formed : WellFormed s) where
 
   below-as : (test alike : Reach → Bool) → ((r : Reach) → Joined s r → test (between (s .points) r) ≡ alike r) → carriedFlow s test ≡ sumBy (λ r. cond (alike r) (r .flow) 0) (s .reaches)
   below-as test alike is =
-      sumBy-alike (λ r. cond (test (between (s .points) r)) (r .flow) 0) (λ r. cond (alike r) (r .flow) 0) (s .reaches)
+      sumBy-same (λ r. cond (test (between (s .points) r)) (r .flow) 0) (λ r. cond (alike r) (r .flow) 0) (s .reaches)
       (all-weaker (Joined s) (λ r. cond (test (between (s .points) r)) (r .flow) 0 ≡ cond (alike r) (r .flow) 0)
       (λ r j. ap (λ b. cond b (r .flow) 0) (is r j)) (s .reaches) (formed .joined))
 
   none-below : (test : Reach → Bool) → ((r : Reach) → Joined s r → test (between (s .points) r) ≡ false) → carriedFlow s test ≡ 0
   none-below test fails = below-as test (λ r. false) fails ∙ sumBy-none (s .reaches)
 
-  gates-as : (test : Reach → Bool) (alike : ℕ → Bool) → ((v : ℕ) → v < s .points → test (through (s .points) gates v) ≡ alike v) → gateFlow s gates test ≡ total (λ v. cond (alike v) (getD gates v shut .flow) 0) (s .points)
-  gates-as test alike is = total-alike _ _ (s .points) (λ v point. ap (λ b. cond b (getD gates v shut .flow) 0) (is v point))
+  gates-as : (test : Reach → Bool) (alike : ℕ → Bool) → ((v : ℕ) → v < s .points → test (through (s .points) gates v) ≡ alike v) → gateFlow s gates test ≡ sumBelow (s .points) (λ v. cond (alike v) (getD gates v shut .flow) 0)
+  gates-as test alike is = below-same _ _ (s .points) (λ v point. ap (λ b. cond b (getD gates v shut .flow) 0) (is v point))
 
   no-gate : (test : Reach → Bool) → ((v : ℕ) → v < s .points → test (through (s .points) gates v) ≡ false) → gateFlow s gates test ≡ 0
-  no-gate test fails = gates-as test (λ v. false) fails ∙ total-none (s .points)
+  no-gate test fails = gates-as test (λ v. false) fails ∙ below-none (s .points)
 
   one-gate : (test : Reach → Bool) (v : ℕ) → v < s .points → ((u : ℕ) → u < s .points → test (through (s .points) gates u) ≡ eqb v u) → gateFlow s gates test ≡ getD gates v shut .flow
-  one-gate test v point is = gates-as test (eqb v) is ∙ total-one (λ u. getD gates u shut .flow) v (s .points) point
+  one-gate test v point is = gates-as test (eqb v) is ∙ below-one v (λ u. getD gates u shut .flow) (s .points) point
 
   module _ (v : ℕ) (point : v < s .points) where
     pub inflow-before : inflow (split s gates) v ≡ inflow s v

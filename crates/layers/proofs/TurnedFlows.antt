@@ -18,7 +18,9 @@ use Rattle.scheme.specs.Questions.{WellFormed, Joined}
 use Rattle.layers.specs.Turns.{turned, turnedReach}
 use Rattle.layers.specs.TurnLaws.{TurnedTwiceIsItself, LawfulAboveAsBelow, ValueAsBelow, SideIfRestIs, CapacityOfRest, WellFormedAsBelow, GreatestAsBelow, rest}
 use Rattle.layers.proofs.LaidFlows.{flows-map, formed-flows}
-use Rattle.layers.proofs.Totals.{sumBy-map, sumBy-alike, total, total-one, total-sumBy, differ-at-two, subℕ-alike}
+use Rattle.scheme.proofs.Signs.{same-differences}
+use Rattle.scheme.proofs.SumLaws.{all-of, sumBelow, sumBy-same, below-one, exchange}
+use Rattle.layers.proofs.Totals.{sumBy-map, differ-at-two}
 
 -- turning twice
 
@@ -77,19 +79,19 @@ well-formed-as-below s formed =
 -- All points but inlet and outlet balance, so those two do together.
 
 module _ (s : Scheme) (formed : WellFormed s) where
-  total-outflow : total (outflow s) (s .points) ≡ sumBy (λ r. r .flow) (s .reaches)
+  total-outflow : sumBelow (s .points) (outflow s) ≡ sumBy (λ r. r .flow) (s .reaches)
   total-outflow =
-      total-sumBy (λ r v. cond (eqb (r .tail) v) (r .flow) 0) (s .reaches) (s .points)
-      ∙ sumBy-alike _ (λ r. r .flow) (s .reaches)
-      (all-weaker (Joined s) (λ r. total (λ v. cond (eqb (r .tail) v) (r .flow) 0) (s .points) ≡ r .flow)
-      (λ r j. total-one (λ v. r .flow) (r .tail) (s .points) (j .tail-point)) (s .reaches) (formed .joined))
+      exchange (λ v r. cond (eqb (r .tail) v) (r .flow) 0) (s .points) (s .reaches)
+      ∙ sumBy-same _ (λ r. r .flow) (s .reaches)
+      (all-weaker (Joined s) (λ r. sumBelow (s .points) (λ v. cond (eqb (r .tail) v) (r .flow) 0) ≡ r .flow)
+      (λ r j. below-one (r .tail) (λ v. r .flow) (s .points) (j .tail-point)) (s .reaches) (formed .joined))
 
-  total-inflow : total (inflow s) (s .points) ≡ sumBy (λ r. r .flow) (s .reaches)
+  total-inflow : sumBelow (s .points) (inflow s) ≡ sumBy (λ r. r .flow) (s .reaches)
   total-inflow =
-      total-sumBy (λ r v. cond (eqb (r .head) v) (r .flow) 0) (s .reaches) (s .points)
-      ∙ sumBy-alike _ (λ r. r .flow) (s .reaches)
-      (all-weaker (Joined s) (λ r. total (λ v. cond (eqb (r .head) v) (r .flow) 0) (s .points) ≡ r .flow)
-      (λ r j. total-one (λ v. r .flow) (r .head) (s .points) (j .head-point)) (s .reaches) (formed .joined))
+      exchange (λ v r. cond (eqb (r .head) v) (r .flow) 0) (s .points) (s .reaches)
+      ∙ sumBy-same _ (λ r. r .flow) (s .reaches)
+      (all-weaker (Joined s) (λ r. sumBelow (s .points) (λ v. cond (eqb (r .head) v) (r .flow) 0) ≡ r .flow)
+      (λ r j. below-one (r .head) (λ v. r .flow) (s .points) (j .head-point)) (s .reaches) (formed .joined))
 
   pub ends-balance : Lawful s → inflow s (s .inlet) + inflow s (s .outlet) ≡ outflow s (s .inlet) + outflow s (s .outlet)
   ends-balance lawful =
@@ -100,7 +102,7 @@ module _ (s : Scheme) (formed : WellFormed s) where
 pub value-as-below : ValueAsBelow
 value-as-below s formed lawful =
     rw (outflow-turned s (s .outlet), inflow-turned s (s .outlet))
-    (subℕ-alike (inflow s (s .outlet)) (outflow s (s .outlet)) (outflow s (s .inlet)) (inflow s (s .inlet))
+    (same-differences (inflow s (s .outlet)) (outflow s (s .outlet)) (outflow s (s .inlet)) (inflow s (s .inlet))
     (omega (arith, ends-balance s formed lawful)))
 
 -- the greatest value
@@ -151,13 +153,9 @@ leaves-turned x r =
       | false ↦ elim (x (r .tail)) as (λ t. (false && not t) ≡ (not t && not (not false))) [ true ↦ refl | false ↦ refl ]
     ]
 
-all-of : {X : Type 0} (P : X → Type 0) → ((x : X) → P x) → (xs : List X) → All P xs
-all-of P each [] = tt
-all-of P each (x ∷ xs) = (each x, all-of P each xs)
-
 pub capacity-of-rest : CapacityOfRest
 capacity-of-rest s x =
     sumBy-map (λ r. cond (leaves x r) (r .limit) 0) turnedReach (s .reaches)
-    ∙ sumBy-alike (λ r. cond (leaves x (turnedReach r)) (r .limit) 0) (λ r. cond (leaves (rest x) r) (r .limit) 0) (s .reaches)
+    ∙ sumBy-same (λ r. cond (leaves x (turnedReach r)) (r .limit) 0) (λ r. cond (leaves (rest x) r) (r .limit) 0) (s .reaches)
     (all-of (λ r. cond (leaves x (turnedReach r)) (r .limit) 0 ≡ cond (leaves (rest x) r) (r .limit) 0)
     (λ r. ap (λ b. cond b (r .limit) 0) (leaves-turned x r)) (s .reaches))
