@@ -1,17 +1,11 @@
 -- The points of a side, and the marks that say the same.
 use mathlib.Core.Path.{_≡_}
-use mathlib.Core.List.{List, [], _∷_}
-use mathlib.Core.Bool.{Bool, false, _||_}
+use mathlib.Core.List.{List}
 use Prim.Native.Nat.{ℕ, _+_, _≤_, max}
-use lib.Dec.{eqb}
 use lib.ListN.{length}
 use Rattle.std.specs.shelf.Lists.{All, folded}
+use Rattle.scheme.specs.Flow.{among}
 use Rattle.scheme.specs.Marks.{marked}
-
--- whether a point is in a list of points
-abbrev pub isIn : List ℕ → ℕ → Bool
-isIn [] v = false
-isIn (w ∷ ws) v = eqb w v || isIn ws v
 
 -- as many marks as there are points, or more where the side has a point past them
 abbrev pub extent : ℕ → List ℕ → ℕ
@@ -21,4 +15,4 @@ extent points side = folded (λ most v. max most (v + 1)) points side
 pub record MarksOf (points : ℕ) (side : List ℕ) (marks : List ℕ) : Type 0 where
   pub count : length marks ≡ extent points side
   pub bits : All (λ m. m ≤ 1) marks
-  pub members : (v : ℕ) → marked marks v ≡ isIn side v
+  pub members : (v : ℕ) → marked marks v ≡ among side v

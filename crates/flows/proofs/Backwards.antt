@@ -7,7 +7,8 @@ use native.Mathlib.Omega.{arith}
 use lib.Dec.{eqb}
 use Rattle.std.proofs.shelf.Lists.{reverse-append}
 use Rattle.scheme.specs.Scheme.{Scheme}
-use Rattle.flows.specs.Ordering.{among, leftInto, least, Next, Taken, Made}
+use Rattle.flows.specs.Ordering.{leftInto, least, Next, Taken, Made}
+use Rattle.scheme.specs.Flow.{among}
 use Rattle.flows.specs.Ordering.Taken.{first, next}
 use Rattle.flows.specs.Ordering.Made.{arrives, stops}
 use Rattle.flows.proofs.Keys.{key-at-most-left}

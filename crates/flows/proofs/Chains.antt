@@ -10,10 +10,10 @@ use lib.IntN.{pos, _+ℤ_}
 use Rattle.std.proofs.shelf.Signed.{ints}
 use Rattle.std.proofs.shelf.Tests.{cases-lt, eq-eqb, ne-eqb, cond-false, or-left, or-from}
 use Rattle.scheme.specs.Scheme.{Scheme}
-use Rattle.scheme.specs.Flow.{Points, Side, Lawful, Greatest, Gap, value}
+use Rattle.scheme.specs.Flow.{Points, Side, Lawful, Greatest, Gap, value, among}
 use Rattle.scheme.specs.Questions.{WellFormed}
 use Rattle.scheme.specs.Crossings.{leftOut}
-use Rattle.flows.specs.Ordering.{among, Made}
+use Rattle.flows.specs.Ordering.{Made}
 use Rattle.flows.specs.Push.{push}
 use Rattle.flows.specs.PushLaws.{SameLimits}
 use Rattle.flows.specs.Round.{Round, Rounds}

@@ -9,10 +9,10 @@ use lib.IntN.{pos}
 use Rattle.std.proofs.shelf.Tests.{cases-bool, both-ways}
 use Rattle.std.proofs.shelf.Signed.{ints}
 use Rattle.scheme.specs.Scheme.{Scheme}
-use Rattle.scheme.specs.Flow.{Points, Side, Lawful, value, capacity}
+use Rattle.scheme.specs.Flow.{Points, Side, Lawful, value, capacity, among}
 use Rattle.scheme.specs.Questions.{WellFormed}
 use Rattle.scheme.specs.Crossings.{leftOut}
-use Rattle.flows.specs.Ordering.{among, leftInto, least, Next, Taken, Made}
+use Rattle.flows.specs.Ordering.{leftInto, least, Next, Taken, Made}
 use Rattle.flows.specs.Ordering.Taken.{first, next}
 use Rattle.flows.specs.Ordering.Made.{arrives, stops}
 use Rattle.flows.specs.OrderingLaws.{LeastSide, NoGainFindsTheLeastSide}

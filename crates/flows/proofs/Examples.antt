@@ -8,8 +8,8 @@ use lib.Dec.{eqb, ltb, leb}
 use Rattle.std.proofs.shelf.Tests.{and-parts, or-cases, both-ways, eqb-true, leb-true, ltb-true, not-true}
 use Rattle.std.proofs.shelf.Ways.{decides-below-and}
 use Rattle.scheme.specs.Scheme.{Scheme}
-use Rattle.scheme.specs.Flow.{Points}
-use Rattle.flows.specs.Ordering.{among, key, least, Next, Taken, Made}
+use Rattle.scheme.specs.Flow.{Points, among}
+use Rattle.flows.specs.Ordering.{key, least, Next, Taken, Made}
 use Rattle.flows.specs.Ordering.Taken.{first, next}
 use Rattle.flows.specs.Ordering.Made.{arrives, stops}
 use Rattle.flows.specs.Round.{Round}

@@ -10,9 +10,9 @@ use lib.ListN.{length, getD}
 use Rattle.std.proofs.shelf.Lists.{length-push, getD-push, getD-append-left}
 use Rattle.std.proofs.shelf.Tests.{both-ways, cases-eq, eqb-true, eq-eqb, or-left, or-right}
 use Rattle.scheme.specs.Scheme.{Scheme}
-use Rattle.scheme.specs.Flow.{Points}
+use Rattle.scheme.specs.Flow.{Points, among}
 use Rattle.scheme.specs.Questions.{WellFormed}
-use Rattle.flows.specs.Ordering.{among, Outside, Taken, Made}
+use Rattle.flows.specs.Ordering.{Outside, Taken, Made}
 use Rattle.flows.specs.Ordering.Taken.{first, next}
 use Rattle.flows.specs.Ordering.Made.{arrives, stops}
 use Rattle.flows.specs.OrderingLaws.{OrdersFitTheScheme}

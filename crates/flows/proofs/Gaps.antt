@@ -11,10 +11,10 @@ use lib.IntN.{ℤ, pos, _+ℤ_}
 use Rattle.std.proofs.shelf.Signed.{ints}
 use Rattle.std.proofs.shelf.Tests.{cases-bool, cases-lt, both-ways, eq-eqb, ne-eqb, cond-true, cond-false}
 use Rattle.scheme.specs.Scheme.{Scheme}
-use Rattle.scheme.specs.Flow.{Points, Side, Lawful, Gap, value}
+use Rattle.scheme.specs.Flow.{Points, Side, Lawful, Gap, value, among}
 use Rattle.scheme.specs.Questions.{WellFormed}
 use Rattle.scheme.specs.Crossings.{leftOut}
-use Rattle.flows.specs.Ordering.{among, leftInto, least, Next, Taken, Made}
+use Rattle.flows.specs.Ordering.{leftInto, least, Next, Taken, Made}
 use Rattle.flows.specs.Ordering.Taken.{first, next}
 use Rattle.flows.specs.Ordering.Made.{arrives, stops}
 use Rattle.flows.specs.Push.{push}

@@ -13,9 +13,9 @@ use Rattle.std.proofs.shelf.Sums.{sumBy-cons, sumBy-le, sumBy-take-le}
 use Rattle.std.proofs.shelf.Tests.{both-ways, eqb-true}
 use Rattle.scheme.specs.declared.rows.Reach.{Reach}
 use Rattle.scheme.specs.Scheme.{Scheme}
-use Rattle.scheme.specs.Flow.{Points, Lawful, leftOn, leftBack}
+use Rattle.scheme.specs.Flow.{Points, Lawful, leftOn, leftBack, among}
 use Rattle.scheme.specs.Questions.{WellFormed, Joined}
-use Rattle.flows.specs.Ordering.{among, leftTo, leftInto, grown, key, withPoint, grownFrom, startKey, least, Made}
+use Rattle.flows.specs.Ordering.{leftTo, leftInto, grown, key, withPoint, grownFrom, startKey, least, Made}
 use Rattle.flows.specs.Ordering.Made.{arrives, stops}
 use Rattle.flows.specs.OrderingLaws.{KeysGrowPointByPoint, KeysStayWithin}
 use Rattle.flows.proofs.Orders.{least-at-most}

@@ -8,7 +8,8 @@ use native.Mathlib.Omega.{arith}
 use lib.Dec.{eqb}
 use Rattle.std.proofs.shelf.Tests.{or-cases, or-left, or-right, or-from, eqb-true, eq-eqb, ne-eqb}
 use Rattle.scheme.specs.Scheme.{Scheme}
-use Rattle.flows.specs.Ordering.{among, withPoint, least, Taken}
+use Rattle.flows.specs.Ordering.{withPoint, least, Taken}
+use Rattle.scheme.specs.Flow.{among}
 use Rattle.flows.specs.Ordering.Taken.{first, next}
 
 -- the points after one more

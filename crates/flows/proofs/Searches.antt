@@ -8,9 +8,9 @@ use native.Mathlib.Omega.{arith}
 use lib.Dec.{eqb}
 use Rattle.std.proofs.shelf.Tests.{cases-bool, cases-eq, cases-lt, both-ways, eqb-true}
 use Rattle.scheme.specs.Scheme.{Scheme}
-use Rattle.scheme.specs.Flow.{Points}
+use Rattle.scheme.specs.Flow.{Points, among}
 use Rattle.scheme.specs.Questions.{WellFormed}
-use Rattle.flows.specs.Ordering.{among, key, least, Outside, Next, Taken, Made}
+use Rattle.flows.specs.Ordering.{key, least, Outside, Next, Taken, Made}
 use Rattle.flows.specs.Ordering.Taken.{first, next}
 use Rattle.flows.specs.Ordering.Made.{arrives, stops}
 use Rattle.flows.specs.OrderingLaws.{HasOrdering, EverySchemeHasAnOrdering}

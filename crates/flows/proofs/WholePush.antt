@@ -16,9 +16,9 @@ use Rattle.std.proofs.shelf.Signed.{ints}
 use Rattle.std.proofs.shelf.Tests.{and-parts, cases-eq, or-left, or-right, or-from, both-ways, eqb-true, eq-eqb, ne-eqb}
 use Rattle.scheme.specs.declared.rows.Reach.{Reach}
 use Rattle.scheme.specs.Scheme.{Scheme, over}
-use Rattle.scheme.specs.Flow.{Points, Lawful, inflow, outflow}
+use Rattle.scheme.specs.Flow.{Points, Lawful, inflow, outflow, among}
 use Rattle.scheme.specs.Questions.{WellFormed, Joined}
-use Rattle.flows.specs.Ordering.{among, leftTo, leftInto}
+use Rattle.flows.specs.Ordering.{leftTo, leftInto}
 use Rattle.flows.specs.Push.{Needs, Stage, firstNeeds, pushedAll, pushBack, pushAlong, push, needsAfter}
 use Rattle.flows.specs.Push.Stage.{begins, goes-on}
 use Rattle.flows.specs.PushLaws.{Pushed, PushRaisesTheValueByTheGain, NeedsStayWithinTheGain}

@@ -7,12 +7,7 @@ use lib.Dec.{eqb}
 use Rattle.std.specs.shelf.Lists.{folded, sumBy}
 use Rattle.scheme.specs.declared.rows.Reach.{Reach}
 use Rattle.scheme.specs.Scheme.{Scheme}
-use Rattle.scheme.specs.Flow.{Points, leftOn, leftBack}
-
--- the points of a list, as a set
-abbrev pub among : List ℕ → Points
-among [] v = false
-among (w ∷ ws) v = eqb w v || among ws v
+use Rattle.scheme.specs.Flow.{Points, among, leftOn, leftBack}
 
 -- what is left along a reach from a point of x to the point v
 abbrev pub leftTo : Points → ℕ → Reach → ℕ

@@ -7,9 +7,9 @@ use Prim.Native.Nat.{ℕ, _+_, _≤_, _<_}
 use lib.ListN.{length, take, getD}
 use lib.IntN.{pos}
 use Rattle.scheme.specs.Scheme.{Scheme}
-use Rattle.scheme.specs.Flow.{Points, Side, Lawful, Greatest, value, capacity}
+use Rattle.scheme.specs.Flow.{Points, Side, Lawful, Greatest, value, capacity, among}
 use Rattle.scheme.specs.Questions.{WellFormed}
-use Rattle.flows.specs.Ordering.{among, key, withPoint, grownFrom, startKey, Made}
+use Rattle.flows.specs.Ordering.{key, withPoint, grownFrom, startKey, Made}
 
 -- Every lawful scheme has an ordering.
 pub record HasOrdering (s : Scheme) : Type 0 where

@@ -5,8 +5,7 @@ use Prim.Native.Nat.{ℕ, _+_, _-_, min}
 use lib.Dec.{eqb}
 use Rattle.scheme.specs.declared.rows.Reach.{Reach}
 use Rattle.scheme.specs.Scheme.{Scheme, over, flowing}
-use Rattle.scheme.specs.Flow.{Points, leftOn, leftBack}
-use Rattle.flows.specs.Ordering.{among}
+use Rattle.scheme.specs.Flow.{Points, leftOn, leftBack, among}
 
 -- what each point still needs
 abbrev pub Needs : Type 0

@@ -7,9 +7,9 @@ use lib.ListN.{length, take}
 use lib.IntN.{pos, _+ℤ_}
 use Rattle.scheme.specs.declared.rows.Reach.{Reach}
 use Rattle.scheme.specs.Scheme.{Scheme, withFlows}
-use Rattle.scheme.specs.Flow.{Lawful, value}
+use Rattle.scheme.specs.Flow.{Lawful, value, among}
 use Rattle.scheme.specs.Questions.{WellFormed}
-use Rattle.flows.specs.Ordering.{among, Made}
+use Rattle.flows.specs.Ordering.{Made}
 use Rattle.flows.specs.Push.{Needs, Stage, pushedAll, push, needsAfter}
 
 -- t has the points, ends and limits of s, with a flow for each reach

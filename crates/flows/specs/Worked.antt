@@ -5,8 +5,8 @@ use Prim.Native.Nat.{ℕ}
 use lib.IntN.{pos, negsuc}
 use Rattle.scheme.specs.declared.rows.Reach.{Reach}
 use Rattle.scheme.specs.Scheme.{Scheme, withLimit, withFlows}
-use Rattle.scheme.specs.Flow.{value, capacity}
-use Rattle.flows.specs.Ordering.{among, Made}
+use Rattle.scheme.specs.Flow.{value, capacity, among}
+use Rattle.flows.specs.Ordering.{Made}
 use Rattle.flows.specs.Round.{Round, Settled}
 
 abbrev pub reach : ℕ → ℕ → ℕ → ℕ → Reach

@@ -1,8 +1,8 @@
 -- Flows, sides and the gap.
 use mathlib.Core.Path.{_≡_}
 use mathlib.Core.Logic.{_≢_}
-use mathlib.Core.List.{List}
-use mathlib.Core.Bool.{Bool, true, false, cond, not, _&&_}
+use mathlib.Core.List.{List, [], _∷_}
+use mathlib.Core.Bool.{Bool, true, false, cond, not, _&&_, _||_}
 use Prim.Native.Nat.{ℕ, _-_, _≤_, _<_}
 use lib.ListN.{length}
 use lib.Dec.{eqb}
@@ -40,6 +40,11 @@ leftBack r = r .flow
 -- a set of points, as a test
 abbrev pub Points : Type 0
 Points = ℕ → Bool
+
+-- the points of a list, as a set
+abbrev pub among : List ℕ → Points
+among [] v = false
+among (w ∷ ws) v = eqb w v || among ws v
 
 -- A side (a cut between inlet and outlet): a set of points with the inlet and without the outlet.
 pub record Side (s : Scheme) (x : Points) : Type 0 where
