@@ -34,18 +34,24 @@ two-forth : (a b : ℕ) → a < 256 → b < 256 → two (a + b * 256) ≡ a ∷ 
 two-forth a b la lb =
     let n : a + b * 256 ≡ b * 256 + a = omega arith in
     let low : (a + b * 256) % 256 ≡ a = ap (λ m. m % 256) n ∙ mod-mul-add b 256 a la in
-    let high : (a + b * 256) / 256 % 256 ≡ b = ap (λ m. m / 256 % 256) n ∙ ap (λ m. m % 256) (div-mul-add b 256 a la) ∙ mod-eq-of-lt lb in
+    let high : (a + b * 256) / 256 % 256 ≡ b =
+    ap (λ m. m / 256 % 256) n ∙ ap (λ m. m % 256) (div-mul-add b 256 a la) ∙ mod-eq-of-lt lb in
     rw (low, high) refl
 
-four-forth : (a b c d : ℕ) → a < 256 → b < 256 → c < 256 → d < 256 → four (a + b * 256 + c * 65536 + d * 16777216) ≡ a ∷ b ∷ c ∷ d ∷ []
+four-forth :
+    (a b c d : ℕ) → a < 256 → b < 256 → c < 256 → d < 256
+    → four (a + b * 256 + c * 65536 + d * 16777216) ≡ a ∷ b ∷ c ∷ d ∷ []
 four-forth a b c d la lb lc ld =
     let n = a + b * 256 + c * 65536 + d * 16777216 in
     let e : n ≡ (b + c * 256 + d * 65536) * 256 + a = omega arith in
-    let e1 : n / 256 ≡ b + c * 256 + d * 65536 = ap (λ m. m / 256) e ∙ div-mul-add (b + c * 256 + d * 65536) 256 a la in
+    let e1 : n / 256 ≡ b + c * 256 + d * 65536 =
+    ap (λ m. m / 256) e ∙ div-mul-add (b + c * 256 + d * 65536) 256 a la in
     let f1 : b + c * 256 + d * 65536 ≡ (c + d * 256) * 256 + b = omega arith in
-    let e2 : n / 65536 ≡ c + d * 256 = sym (div-div-eq-div-mul n 256 256) ∙ ap (λ m. m / 256) (e1 ∙ f1) ∙ div-mul-add (c + d * 256) 256 b lb in
+    let e2 : n / 65536 ≡ c + d * 256 =
+    sym (div-div-eq-div-mul n 256 256) ∙ ap (λ m. m / 256) (e1 ∙ f1) ∙ div-mul-add (c + d * 256) 256 b lb in
     let f2 : c + d * 256 ≡ d * 256 + c = omega arith in
-    let e3 : n / 16777216 ≡ d = sym (div-div-eq-div-mul n 65536 256) ∙ ap (λ m. m / 256) (e2 ∙ f2) ∙ div-mul-add d 256 c lc in
+    let e3 : n / 16777216 ≡ d =
+    sym (div-div-eq-div-mul n 65536 256) ∙ ap (λ m. m / 256) (e2 ∙ f2) ∙ div-mul-add d 256 c lc in
     let d0 : n % 256 ≡ a = ap (λ m. m % 256) e ∙ mod-mul-add (b + c * 256 + d * 65536) 256 a la in
     let d1 : n / 256 % 256 ≡ b = ap (λ m. m % 256) (e1 ∙ f1) ∙ mod-mul-add (c + d * 256) 256 b lb in
     let d2 : n / 65536 % 256 ≡ c = ap (λ m. m % 256) (e2 ∙ f2) ∙ mod-mul-add d 256 c lc in
@@ -80,7 +86,9 @@ module _ (bs : List ℕ) (bytes : Bytes bs) where
       ∙ ap (λ l. two (twoAt bs p) ++ (two (twoAt bs (p + 2)) ++ l)) (four-here (p + 4) (p + 8) (omega arith) (omega arith))
       ∙ ap (λ l. two (twoAt bs p) ++ (two (twoAt bs (p + 2)) ++ (four (fourAt bs (p + 4)) ++ l))) (four-here (p + 8) e (omega arith) within)
 
-  pub rows-from : (q a n e : ℕ) → e ≡ q + 12 * (a + n) → e ≤ length bs → drop (q + 12 * a) bs ≡ joined rowBytes (map (λ k. rowAt bs (rowPlace q k)) (counting a n)) ++ drop e bs
+  pub rows-from :
+      (q a n e : ℕ) → e ≡ q + 12 * (a + n) → e ≤ length bs
+      → drop (q + 12 * a) bs ≡ joined rowBytes (map (λ k. rowAt bs (rowPlace q k)) (counting a n)) ++ drop e bs
   rows-from q a zero e end within = ap (λ i. drop i bs) (omega arith)
   rows-from q a (suc n) e end within =
       row-here (q + 12 * a) (q + 12 * (a + 1)) (omega arith) (omega arith)
@@ -101,7 +109,10 @@ module _ (bs : List ℕ) (bytes : Bytes bs) where
       )
 
   -- a record whose length, kind and body stand at a place is laid there
-  pub record-here : (at : ℕ) (r : FileRecord) → endAt bs at ≤ length bs → kindAt bs at ≡ kindOf r → lengthAt bs at ≡ length (bodyOf r) → drop (at + 6) bs ≡ bodyOf r ++ drop (endAt bs at) bs → drop at bs ≡ recordBytes r ++ drop (endAt bs at) bs
+  pub record-here :
+      (at : ℕ) (r : FileRecord) → endAt bs at ≤ length bs → kindAt bs at ≡ kindOf r
+      → lengthAt bs at ≡ length (bodyOf r) → drop (at + 6) bs ≡ bodyOf r ++ drop (endAt bs at) bs
+      → drop at bs ≡ recordBytes r ++ drop (endAt bs at) bs
   record-here at r within kind size body =
       four-here at (at + 4) refl (omega arith)
       ∙ ap (λ l. four (fourAt bs at) ++ l) (two-here (at + 4) (at + 6) (omega arith) (omega arith))
@@ -112,14 +123,18 @@ module _ (bs : List ℕ) (bytes : Bytes bs) where
   noteAt : ℕ → List ℕ
   noteAt at = take (lengthAt bs at) (drop (at + 6) bs)
 
-  note-here : (at : ℕ) → endAt bs at ≤ length bs → kindAt bs at ≡ 3 → drop at bs ≡ recordBytes (note (noteAt at)) ++ drop (endAt bs at) bs
+  note-here :
+      (at : ℕ) → endAt bs at ≤ length bs → kindAt bs at ≡ 3
+      → drop at bs ≡ recordBytes (note (noteAt at)) ++ drop (endAt bs at) bs
   unfolding noteAt
   note-here at within kind =
       record-here at (note (noteAt at)) within kind
       (sym (length-take-le (lengthAt bs at) (drop (at + 6) bs) (simp length-drop (omega arith))))
       (sym (take-append-drop (lengthAt bs at) (drop (at + 6) bs)) ∙ ap (λ l. noteAt at ++ l) (drop-drop (lengthAt bs at) (at + 6) bs))
 
-  rows-here : (at : ℕ) → endAt bs at ≤ length bs → kindAt bs at ≡ 2 → lengthAt bs at % 12 ≡ 0 → drop at bs ≡ recordBytes (rows (rowsAt bs (at + 6) (lengthAt bs at / 12))) ++ drop (endAt bs at) bs
+  rows-here :
+      (at : ℕ) → endAt bs at ≤ length bs → kindAt bs at ≡ 2 → lengthAt bs at % 12 ≡ 0
+      → drop at bs ≡ recordBytes (rows (rowsAt bs (at + 6) (lengthAt bs at / 12))) ++ drop (endAt bs at) bs
   rows-here at within kind whole =
       let n = lengthAt bs at / 12 in
       let size : 12 * n ≡ lengthAt bs at = omega arith in
@@ -127,7 +142,10 @@ module _ (bs : List ℕ) (bytes : Bytes bs) where
       (sym size ∙ sym (length-rows-bytes (rowsAt bs (at + 6) n) ∙ ap (λ m. 12 * m) (length-rows bs (at + 6) n)))
       (ap (λ i. drop i bs) (omega arith) ∙ rows-from (at + 6) 0 n (endAt bs at) (omega arith) within)
 
-  pub head-at : (at points inlet outlet : ℕ) → endAt bs at ≤ length bs → kindAt bs at ≡ 1 → lengthAt bs at ≡ 6 → points ≡ twoAt bs (at + 6) → inlet ≡ twoAt bs (at + 6 + 2) → outlet ≡ twoAt bs (at + 6 + 4) → drop at bs ≡ recordBytes (head points inlet outlet) ++ drop (endAt bs at) bs
+  pub head-at :
+      (at points inlet outlet : ℕ) → endAt bs at ≤ length bs → kindAt bs at ≡ 1 → lengthAt bs at ≡ 6
+      → points ≡ twoAt bs (at + 6) → inlet ≡ twoAt bs (at + 6 + 2) → outlet ≡ twoAt bs (at + 6 + 4)
+      → drop at bs ≡ recordBytes (head points inlet outlet) ++ drop (endAt bs at) bs
   head-at at points inlet outlet within kind size en es et =
       record-here at (head points inlet outlet) within kind size
       (two-here (at + 6) (at + 6 + 2) refl (omega arith)
@@ -135,18 +153,24 @@ module _ (bs : List ℕ) (bytes : Bytes bs) where
       ∙ ap (λ l. two (twoAt bs (at + 6)) ++ (two (twoAt bs (at + 6 + 2)) ++ l)) (two-here (at + 6 + 4) (endAt bs at) (omega arith) within)
       ∙ rw (en, es, et) refl)
 
-  head-here : endAt bs 0 ≤ length bs → kindAt bs 0 ≡ 1 → lengthAt bs 0 ≡ 6 → drop 0 bs ≡ recordBytes (head (twoAt bs 6) (twoAt bs 8) (twoAt bs 10)) ++ drop (endAt bs 0) bs
+  head-here :
+      endAt bs 0 ≤ length bs → kindAt bs 0 ≡ 1 → lengthAt bs 0 ≡ 6
+      → drop 0 bs ≡ recordBytes (head (twoAt bs 6) (twoAt bs 8) (twoAt bs 10)) ++ drop (endAt bs 0) bs
   head-here within kind size = head-at 0 (twoAt bs 6) (twoAt bs 8) (twoAt bs 10) within kind size refl refl refl
 
 -- the kind that is left where a record passes
-kind-note : (bs : List ℕ) (at : ℕ) (seen : Bool) → askRecord bs at seen ≡ None → (kindAt bs at ≡ 1 → ⊥) → (kindAt bs at ≡ 2 → ⊥) → kindAt bs at ≡ 3
+kind-note :
+    (bs : List ℕ) (at : ℕ) (seen : Bool) → askRecord bs at seen ≡ None → (kindAt bs at ≡ 1 → ⊥)
+    → (kindAt bs at ≡ 2 → ⊥) → kindAt bs at ≡ 3
 kind-note bs at seen asked not-head not-rows = grind (arith, tells)
 
 ending-none : (at block : ℕ) → ending at None ≡ Ok block → ⊥
 ending-none at block ends = let z : _≡_ {A = ℕ} 0 1 = cc in omega arith
 
 -- behind the row block there are notes alone
-notes-after : (turns : ℕ) (bs : List ℕ) → Bytes bs → (at q block : ℕ) → 0 < at → length bs ≤ at + turns → walk turns bs at (Some q) ≡ Ok block → (notes : List (List ℕ)) × (drop at bs ≡ notesBytes notes)
+notes-after :
+    (turns : ℕ) (bs : List ℕ) → Bytes bs → (at q block : ℕ) → 0 < at → length bs ≤ at + turns
+    → walk turns bs at (Some q) ≡ Ok block → (notes : List (List ℕ)) × (drop at bs ≡ notesBytes notes)
 notes-after zero bs bytes at q block later enough ends = ([], drop-all at bs (omega arith))
 notes-after (suc turns) bs bytes at q block later enough ends =
     ⊎-elim
@@ -172,7 +196,9 @@ pub record Behind-head (bs : List ℕ) (at : ℕ) : Type 0 where
   pub fit : All RowFits reaches
   pub laid : drop at bs ≡ notesBytes before ++ (recordBytes (rows reaches) ++ notesBytes after)
 
-behind-head : (turns : ℕ) (bs : List ℕ) → Bytes bs → (at block : ℕ) → 0 < at → length bs ≤ at + turns → walk turns bs at None ≡ Ok block → Behind-head bs at
+behind-head :
+    (turns : ℕ) (bs : List ℕ) → Bytes bs → (at block : ℕ) → 0 < at → length bs ≤ at + turns
+    → walk turns bs at None ≡ Ok block → Behind-head bs at
 behind-head zero bs bytes at block later enough ends = absurd (ending-none at block ends)
 behind-head (suc turns) bs bytes at block later enough ends =
     ⊎-elim
@@ -184,7 +210,8 @@ behind-head (suc turns) bs bytes at block later enough ends =
     (λ is.
     let kind = eqb-true (kindAt bs at) 2 is in
     let seen : rowsFrom bs at None ≡ Some at = rw is refl in
-    let more = notes-after turns bs bytes (endAt bs at) at block (omega arith) (omega arith) (ap (walk turns bs (endAt bs at)) (sym seen) ∙ on) in
+    let more =
+    notes-after turns bs bytes (endAt bs at) at block (omega arith) (omega arith) (ap (walk turns bs (endAt bs at)) (sym seen) ∙ on) in
     record {
       before = [];
       reaches = rowsAt bs (at + 6) (lengthAt bs at / 12);
@@ -199,7 +226,8 @@ behind-head (suc turns) bs bytes at block later enough ends =
     let not-rows = eqb-false (kindAt bs at) 2 other in
     let kind = kind-note bs at false asked (t .later later) not-rows in
     let same : rowsFrom bs at None ≡ None = rw other refl in
-    let more = behind-head turns bs bytes (endAt bs at) block (omega arith) (omega arith) (ap (walk turns bs (endAt bs at)) (sym same) ∙ on) in
+    let more =
+    behind-head turns bs bytes (endAt bs at) block (omega arith) (omega arith) (ap (walk turns bs (endAt bs at)) (sym same) ∙ on) in
     let this = recordBytes (note (noteAt bs bytes at)) in
     record {
       before = noteAt bs bytes at ∷ more .before;
@@ -217,14 +245,18 @@ behind-head (suc turns) bs bytes at block later enough ends =
     (cases-lt at (length bs))
 
 -- a walk that goes from the start to a row block has a turn and a first byte
-starts : (turns : ℕ) (bs : List ℕ) (block : ℕ) → length bs ≡ turns → walk turns bs 0 None ≡ Ok block → (t : ℕ) × (turns ≡ suc t)
+starts :
+    (turns : ℕ) (bs : List ℕ) (block : ℕ) → length bs ≡ turns → walk turns bs 0 None ≡ Ok block
+    → (t : ℕ) × (turns ≡ suc t)
 starts zero bs block long ends = absurd (ending-none 0 block ends)
 starts (suc turns) bs block long ends = (turns, refl)
 
 pub contents : (bs : List ℕ) → Bytes bs → (block : ℕ) → rowBlock bs ≡ Ok block → (c : Contents) × FileOf bs c
 contents bs bytes block found =
-    let short : length bs ≤ 65536 = ⊎-elim (λ is. leb-true (length bs) 65536 is) (λ long. absurd (let f = rw long at found in let z : _≡_ {A = ℕ} 0 1 = cc in omega arith)) (cases-bool (leb (length bs) 65536)) in
-    let ends : walk (length bs) bs 0 None ≡ Ok block = sym (cond-true (leb (length bs) 65536) _ _ (le-leb (length bs) 65536 short)) ∙ found in
+    let short : length bs ≤ 65536 =
+    ⊎-elim (λ is. leb-true (length bs) 65536 is) (λ long. absurd (let f = rw long at found in let z : _≡_ {A = ℕ} 0 1 = cc in omega arith)) (cases-bool (leb (length bs) 65536)) in
+    let ends : walk (length bs) bs 0 None ≡ Ok block =
+    sym (cond-true (leb (length bs) 65536) _ _ (le-leb (length bs) 65536 short)) ∙ found in
     let one = starts (length bs) bs block refl ends in
     let begun : walk (suc (one .0)) bs 0 None ≡ Ok block = ap (λ n. walk n bs 0 None) (sym (one .1)) ∙ ends in
     let within : 0 < length bs = omega (arith, one .1) in

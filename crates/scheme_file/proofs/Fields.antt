@@ -17,7 +17,9 @@ module _ (f : SchemeFile) where
   file-reaches = length-rows (fileBytes f) (f .rows) (heldRows f)
 
   module _ (field : Reach → ℕ) (reach : ℕ) where
-    pub field-at : reach < heldRows f → mapped field (nth (fileScheme f .reaches) reach) ≡ Some (field (rowAt (fileBytes f) (rowPlace (f .rows) reach)))
+    pub field-at :
+        reach < heldRows f
+        → mapped field (nth (fileScheme f .reaches) reach) ≡ Some (field (rowAt (fileBytes f) (rowPlace (f .rows) reach)))
     field-at within = ap (mapped field) (nth-rows (fileBytes f) (f .rows) (heldRows f) reach within)
 
     pub field-past : heldRows f ≤ reach → mapped field (nth (fileScheme f .reaches) reach) ≡ None

@@ -22,7 +22,9 @@ use Rattle.scheme_file.proofs.RowWrites.{Field, scheme-after}
 use Rattle.scheme_file.proofs.Stays.{row-block-same, length-same}
 
 -- where there are rows, they lie behind the head and in the bytes
-pub held-lie : (bs : List ℕ) (rows count reach : ℕ) → reach < heldIn bs rows count → (12 ≤ rows) × (rows + 12 * heldIn bs rows count ≤ length bs)
+pub held-lie :
+    (bs : List ℕ) (rows count reach : ℕ) → reach < heldIn bs rows count
+    → (12 ≤ rows) × (rows + 12 * heldIn bs rows count ≤ length bs)
 held-lie bs rows count reach within = (grind (arith, tells), grind (arith, tells))
 
 held-most : (bs : List ℕ) (rows count : ℕ) → heldIn bs rows count ≤ count
@@ -32,7 +34,9 @@ held-most bs rows count = grind (arith, tells)
 abbrev schemeIn : List ℕ → ℕ → ℕ → Scheme
 schemeIn bs rows count = schemeAt bs rows (heldIn bs rows count)
 
-module _ (field : Field) (f g : SchemeFile) (reach x : ℕ) (fits : x < 2 ^ 32) (bytes : fileBytes g ≡ rowPatched f reach (field .offset) x) (rows : g .rows ≡ f .rows) (count : g .count ≡ f .count) where
+module _ (field : Field) (f g : SchemeFile) (reach x : ℕ) (fits : x < 2 ^ 32)
+    (bytes : fileBytes g ≡ rowPatched f reach (field .offset) x) (rows : g .rows ≡ f .rows)
+    (count : g .count ≡ f .count) where
   scheme-of : fileScheme g ≡ schemeIn (rowPatched f reach (field .offset) x) (f .rows) (f .count)
   scheme-of =
       ap (λ bs. schemeIn bs (g .rows) (g .count)) bytes
@@ -45,7 +49,8 @@ module _ (field : Field) (f g : SchemeFile) (reach x : ℕ) (fits : x < 2 ^ 32) 
       (λ within.
       let lie = held-lie (fileBytes f) (f .rows) (f .count) reach within in
       let q = rowPlace (f .rows) reach + field .offset in
-      let level : length (patched (fileBytes f) q x) ≡ length (fileBytes f) = length-patched (fileBytes f) q x (omega (arith, field .small, lie .1)) in
+      let level : length (patched (fileBytes f) q x) ≡ length (fileBytes f) =
+      length-patched (fileBytes f) q x (omega (arith, field .small, lie .1)) in
       scheme-of
       ∙ ap (λ bs. schemeIn bs (f .rows) (f .count)) (sym (cond-below reach (heldRows f) (patched (fileBytes f) q x) (fileBytes f) within))
       ∙ ap (λ n. schemeAt (patched (fileBytes f) q x) (f .rows) (cond (leb 12 (f .rows) && leb (f .rows + 12 * f .count) n) (f .count) 0)) level
@@ -62,9 +67,12 @@ module _ (field : Field) (f g : SchemeFile) (reach x : ℕ) (fits : x < 2 ^ 32) 
       let lie = held-lie (fileBytes f) (f .rows) (f .count) reach within in
       let q = rowPlace (f .rows) reach + field .offset in
       let holds : q + 4 ≤ length (fileBytes f) = omega (arith, field .small, lie .1) in
-      let below : q + 4 ≤ endAt (fileBytes f) (ok .block) = omega (arith, field .small, ok .whole, ok .begin, held-most (fileBytes f) (f .rows) (f .count)) in
-      let is : fileBytes g ≡ patched (fileBytes f) q x = bytes ∙ sym (cond-below reach (heldRows f) (patched (fileBytes f) q x) (fileBytes f) within) in
-      let level : length (fileBytes g) ≡ length (fileBytes f) = ap length is ∙ length-patched (fileBytes f) q x holds in
+      let below : q + 4 ≤ endAt (fileBytes f) (ok .block) =
+      omega (arith, field .small, ok .whole, ok .begin, held-most (fileBytes f) (f .rows) (f .count)) in
+      let is : fileBytes g ≡ patched (fileBytes f) q x =
+      bytes ∙ sym (cond-below reach (heldRows f) (patched (fileBytes f) q x) (fileBytes f) within) in
+      let level : length (fileBytes g) ≡ length (fileBytes f) =
+      ap length is ∙ length-patched (fileBytes f) q x holds in
       let apart : (k : ℕ) → (k < ok .block + 6) ⊎ (endAt (fileBytes f) (ok .block) ≤ k) → getD (fileBytes g) k 0 ≡ getD (fileBytes f) k 0 =
       λ k outside. ap (λ bs. getD bs k 0) is ∙ ⊎-elim (λ before. patched-below (fileBytes f) q x holds k (omega (arith, ok .begin))) (λ after. patched-above (fileBytes f) q x holds k (omega arith)) outside in
       record {
@@ -77,7 +85,8 @@ module _ (field : Field) (f g : SchemeFile) (reach x : ℕ) (fits : x < 2 ^ 32) 
 
   stays-past : Accepted f → heldRows f ≤ reach → Accepted g
   stays-past ok past =
-      let is : fileBytes g ≡ fileBytes f = bytes ∙ sym (cond-above reach (heldRows f) _ (fileBytes f) (fileBytes f) past refl) in
+      let is : fileBytes g ≡ fileBytes f =
+      bytes ∙ sym (cond-above reach (heldRows f) _ (fileBytes f) (fileBytes f) past refl) in
       record {
         block = ok .block;
         found = ap rowBlock is ∙ ok .found;

@@ -51,7 +51,10 @@ kind-fits (head n s t) = omega arith
 kind-fits (rows rs) = omega arith
 kind-fits (note bs) = omega arith
 
-asked-yes : (bs : List ℕ) (at : ℕ) (seen : Bool) → inside bs at ≡ true → known (kindAt bs at) ≡ true → headed at (kindAt bs at) (lengthAt bs at) ≡ true → rowed seen (kindAt bs at) (lengthAt bs at) ≡ true → askRecord bs at seen ≡ None
+asked-yes :
+    (bs : List ℕ) (at : ℕ) (seen : Bool) → inside bs at ≡ true → known (kindAt bs at) ≡ true
+    → headed at (kindAt bs at) (lengthAt bs at) ≡ true → rowed seen (kindAt bs at) (lengthAt bs at) ≡ true
+    → askRecord bs at seen ≡ None
 asked-yes bs at seen i k h r = rw (i, k, h, r) refl
 
 known-kind : (r : FileRecord) → known (kindOf r) ≡ true
@@ -59,11 +62,14 @@ known-kind (head n s t) = refl
 known-kind (rows rs) = refl
 known-kind (note bs) = refl
 
-scheme-of : (n n′ s s′ t t′ : ℕ) (rs rs′ : List Reach) → n ≡ n′ → s ≡ s′ → t ≡ t′ → rs ≡ rs′ → _≡_ {A = Scheme} (record { points = n; inlet = s; outlet = t; reaches = rs }) (record { points = n′; inlet = s′; outlet = t′; reaches = rs′ })
+scheme-of :
+    (n n′ s s′ t t′ : ℕ) (rs rs′ : List Reach) → n ≡ n′ → s ≡ s′ → t ≡ t′ → rs ≡ rs′
+    → _≡_ {A = Scheme} (record { points = n; inlet = s; outlet = t; reaches = rs }) (record { points = n′; inlet = s′; outlet = t′; reaches = rs′ })
 scheme-of n n′ s s′ t t′ rs rs′ en es et ers = cc
 
 -- one record, behind a front and before a rest
-module _ (bs pre rest : List ℕ) (r : FileRecord) (laid : bs ≡ pre ++ (recordBytes r ++ rest)) (small : length bs ≤ 65536) where
+module _ (bs pre rest : List ℕ) (r : FileRecord) (laid : bs ≡ pre ++ (recordBytes r ++ rest))
+    (small : length bs ≤ 65536) where
   total : length bs ≡ length pre + (6 + length (bodyOf r) + length rest)
   total = ap length laid ∙ simp length-append (omega arith)
 
@@ -91,9 +97,13 @@ module _ (bs pre rest : List ℕ) (r : FileRecord) (laid : bs ≡ pre ++ (record
       (le-leb (endAt bs (length pre)) (length bs) (omega (arith, total, length-here)))
 
   -- the walk goes past it, and knows it for a row block if it is one
-  pub walked : (seen : Option ℕ) → headed (length pre) (kindOf r) (length (bodyOf r)) ≡ true → rowed (isSome seen) (kindOf r) (length (bodyOf r)) ≡ true → Walking bs (length pre) seen → Walking bs (length (pre ++ recordBytes r)) (cond (eqb (kindOf r) 2) (Some (length pre)) seen)
+  pub walked :
+      (seen : Option ℕ) → headed (length pre) (kindOf r) (length (bodyOf r)) ≡ true
+      → rowed (isSome seen) (kindOf r) (length (bodyOf r)) ≡ true → Walking bs (length pre) seen
+      → Walking bs (length (pre ++ recordBytes r)) (cond (eqb (kindOf r) 2) (Some (length pre)) seen)
   walked seen h o w =
-      let asked = asked-yes bs (length pre) (isSome seen) inside-here (ap known kind-here ∙ known-kind r) (rw (kind-here, length-here) h) (rw (kind-here, length-here) o) in
+      let asked =
+      asked-yes bs (length pre) (isSome seen) inside-here (ap known kind-here ∙ known-kind r) (rw (kind-here, length-here) h) (rw (kind-here, length-here) o) in
       let more = walking-more bs (length pre) seen w (omega (arith, total)) asked in
       subst (λ e. Walking bs e (cond (eqb (kindOf r) 2) (Some (length pre)) seen)) end-here
       (subst (λ k. Walking bs (endAt bs (length pre)) (cond (eqb k 2) (Some (length pre)) seen)) kind-here more)
@@ -105,19 +115,26 @@ later-headed at kind size later other = rw (ne-eqb at 0 (λ e. omega arith), oth
 abbrev pub notesBytes : List (List ℕ) → List ℕ
 notesBytes notes = joined recordBytes (map note notes)
 
-pub notes-walked : (notes : List (List ℕ)) (bs pre rest : List ℕ) (seen : Option ℕ) → bs ≡ pre ++ (notesBytes notes ++ rest) → length bs ≤ 65536 → 0 < length pre → Walking bs (length pre) seen → Walking bs (length (pre ++ notesBytes notes)) seen
+pub notes-walked :
+    (notes : List (List ℕ)) (bs pre rest : List ℕ) (seen : Option ℕ) → bs ≡ pre ++ (notesBytes notes ++ rest)
+    → length bs ≤ 65536 → 0 < length pre → Walking bs (length pre) seen
+    → Walking bs (length (pre ++ notesBytes notes)) seen
 notes-walked [] bs pre rest seen laid short later w = subst (λ l. Walking bs (length l) seen) (sym (append-nil pre)) w
 notes-walked (n ∷ ns) bs pre rest seen laid short later w =
     let first = recordBytes (note n) in
-    let here : bs ≡ pre ++ (first ++ (notesBytes ns ++ rest)) = laid ∙ ap (λ l. pre ++ l) (append-assoc first (notesBytes ns) rest) in
-    let step = walked bs pre (notesBytes ns ++ rest) (note n) here short seen (later-headed (length pre) 3 (length n) later refl) refl w in
+    let here : bs ≡ pre ++ (first ++ (notesBytes ns ++ rest)) =
+    laid ∙ ap (λ l. pre ++ l) (append-assoc first (notesBytes ns) rest) in
+    let step =
+    walked bs pre (notesBytes ns ++ rest) (note n) here short seen (later-headed (length pre) 3 (length n) later refl) refl w in
     let longer : 0 < length (pre ++ first) = simp length-append (omega arith) in
-    let more = notes-walked ns bs (pre ++ first) rest seen (here ∙ sym (append-assoc pre first (notesBytes ns ++ rest))) short longer step in
+    let more =
+    notes-walked ns bs (pre ++ first) rest seen (here ∙ sym (append-assoc pre first (notesBytes ns ++ rest))) short longer step in
     subst (λ l. Walking bs (length l) seen) (append-assoc pre first (notesBytes ns)) more
 
 pub joined-append : {X : Type 0} (f : X → List ℕ) (xs ys : List X) → joined f (xs ++ ys) ≡ joined f xs ++ joined f ys
 joined-append f [] ys = refl
-joined-append f (x ∷ xs) ys = ap (λ l. f x ++ l) (joined-append f xs ys) ∙ sym (append-assoc (f x) (joined f xs) (joined f ys))
+joined-append f (x ∷ xs) ys =
+    ap (λ l. f x ++ l) (joined-append f xs ys) ∙ sym (append-assoc (f x) (joined f xs) (joined f ys))
 
 pub length-rows-bytes : (rs : List Reach) → length (joined rowBytes rs) ≡ 12 * length rs
 length-rows-bytes [] = refl
@@ -130,7 +147,9 @@ whole-rows rs few =
     and-from (eqb (length (joined rowBytes rs) % 12) 0) (leb (length (joined rowBytes rs) / 12) 4096) (eq-eqb _ 0 whole) (le-leb _ 4096 most)
 
 -- the rows that are laid are those that are read
-rows-read : (rs : List Reach) (bs pre rest : List ℕ) → bs ≡ pre ++ (joined rowBytes rs ++ rest) → All RowFits rs → (k : ℕ) (d : Reach) → k < length rs → rowAt bs (length pre + 12 * k) ≡ getD rs k d
+rows-read :
+    (rs : List Reach) (bs pre rest : List ℕ) → bs ≡ pre ++ (joined rowBytes rs ++ rest) → All RowFits rs
+    → (k : ℕ) (d : Reach) → k < length rs → rowAt bs (length pre + 12 * k) ≡ getD rs k d
 rows-read [] bs pre rest laid fit k d below = absurd (omega arith)
 rows-read (r ∷ rs) bs pre rest laid fit zero d below =
     let ys = (rowBytes r ++ joined rowBytes rs) ++ rest in
@@ -143,7 +162,8 @@ rows-read (r ∷ rs) bs pre rest laid fit zero d below =
 rows-read (r ∷ rs) bs pre rest laid fit (suc k) d below =
     let here : bs ≡ (pre ++ rowBytes r) ++ (joined rowBytes rs ++ rest) =
     laid ∙ ap (λ l. pre ++ l) (append-assoc (rowBytes r) (joined rowBytes rs) rest) ∙ sym (append-assoc pre (rowBytes r) (joined rowBytes rs ++ rest)) in
-    let place : length pre + 12 * suc k ≡ length (pre ++ rowBytes r) + 12 * k = sym (ap (λ n. n + 12 * k) (length-append pre (rowBytes r)) ∙ omega arith) in
+    let place : length pre + 12 * suc k ≡ length (pre ++ rowBytes r) + 12 * k =
+    sym (ap (λ n. n + 12 * k) (length-append pre (rowBytes r)) ∙ omega arith) in
     ap (rowAt bs) place ∙ rows-read rs bs (pre ++ rowBytes r) rest here (fit .1) k d (omega arith)
 
 -- the head's bytes, those before the row block, and the row block's
@@ -159,10 +179,13 @@ blockBytes c = recordBytes (rows (c .reaches))
 -- A byte string that is laid out as a scheme file is accepted, and means what it was laid out from.
 module _ (bs : List ℕ) (c : Contents) (file : FileOf bs c) where
   laid-out : bs ≡ headBytes c ++ (notesBytes (c .before) ++ (blockBytes c ++ notesBytes (c .after)))
-  laid-out = file .laid ∙ ap (λ l. headBytes c ++ l) (joined-append recordBytes (map note (c .before)) (rows (c .reaches) ∷ map note (c .after)))
+  laid-out =
+      file .laid
+      ∙ ap (λ l. headBytes c ++ l) (joined-append recordBytes (map note (c .before)) (rows (c .reaches) ∷ map note (c .after)))
 
   laid-block : bs ≡ frontBytes c ++ (blockBytes c ++ notesBytes (c .after))
-  laid-block = laid-out ∙ sym (append-assoc (headBytes c) (notesBytes (c .before)) (blockBytes c ++ notesBytes (c .after)))
+  laid-block =
+      laid-out ∙ sym (append-assoc (headBytes c) (notesBytes (c .before)) (blockBytes c ++ notesBytes (c .after)))
 
   pub laid-found : rowBlock bs ≡ Ok (length (frontBytes c))
   laid-found =
@@ -170,12 +193,18 @@ module _ (bs : List ℕ) (c : Contents) (file : FileOf bs c) where
       let b = notesBytes (c .before) in
       let a = notesBytes (c .after) in
       let w1 = walked bs [] (b ++ (blockBytes c ++ a)) h laid-out (file .short) None refl refl (walking-none bs) in
-      let w2 = notes-walked (c .before) bs (recordBytes h) (blockBytes c ++ a) None laid-out (file .short) (omega arith) w1 in
+      let w2 =
+      notes-walked (c .before) bs (recordBytes h) (blockBytes c ++ a) None laid-out (file .short) (omega arith) w1 in
       let later : 0 < length (recordBytes h ++ b) = simp length-append (omega arith) in
-      let w3 = walked bs (frontBytes c) a (rows (c .reaches)) laid-block (file .short) None (later-headed (length (frontBytes c)) 2 (length (joined rowBytes (c .reaches))) later refl) (whole-rows (c .reaches) (file .few)) w2 in
-      let laid-after : bs ≡ (frontBytes c ++ blockBytes c) ++ (a ++ []) = laid-block ∙ sym (append-assoc (frontBytes c) (blockBytes c) a) ∙ ap (λ l. (frontBytes c ++ blockBytes c) ++ l) (sym (append-nil a)) in
-      let w4 = notes-walked (c .after) bs (frontBytes c ++ blockBytes c) [] (Some (length (frontBytes c))) laid-after (file .short) (simp length-append (omega arith)) w3 in
-      let all : length bs ≤ length ((frontBytes c ++ blockBytes c) ++ a) = omega (arith, ap length (laid-block ∙ sym (append-assoc (frontBytes c) (blockBytes c) a))) in
+      let w3 =
+      walked bs (frontBytes c) a (rows (c .reaches)) laid-block (file .short) None (later-headed (length (frontBytes c)) 2 (length (joined rowBytes (c .reaches))) later refl) (whole-rows (c .reaches) (file .few)) w2 in
+      let laid-after : bs ≡ (frontBytes c ++ blockBytes c) ++ (a ++ []) =
+      laid-block ∙ sym (append-assoc (frontBytes c) (blockBytes c) a)
+      ∙ ap (λ l. (frontBytes c ++ blockBytes c) ++ l) (sym (append-nil a)) in
+      let w4 =
+      notes-walked (c .after) bs (frontBytes c ++ blockBytes c) [] (Some (length (frontBytes c))) laid-after (file .short) (simp length-append (omega arith)) w3 in
+      let all : length bs ≤ length ((frontBytes c ++ blockBytes c) ++ a) =
+      omega (arith, ap length (laid-block ∙ sym (append-assoc (frontBytes c) (blockBytes c) a))) in
       walking-all bs _ _ w4 (file .short) all
 
   laid-count : lengthAt bs (length (frontBytes c)) / 12 ≡ length (c .reaches)
@@ -192,12 +221,14 @@ module _ (bs : List ℕ) (c : Contents) (file : FileOf bs c) where
       same-lists _ _
       (length-rows bs (length (frontBytes c) + 6) (length (c .reaches)))
       (λ k d below.
-      let within : k < length (c .reaches) = omega (arith, length-rows bs (length (frontBytes c) + 6) (length (c .reaches))) in
+      let within : k < length (c .reaches) =
+      omega (arith, length-rows bs (length (frontBytes c) + 6) (length (c .reaches))) in
       getD-rows bs (length (frontBytes c) + 6) (length (c .reaches)) k d within
       ∙ ap (λ n. rowAt bs (n + 12 * k)) (sym place)
       ∙ rows-read (c .reaches) bs (frontBytes c ++ size) (notesBytes (c .after)) here (file .rows-fit) k d within)
 
-  pub laid-scheme : schemeAt bs (length (frontBytes c) + 6) (lengthAt bs (length (frontBytes c)) / 12) ≡ contentsScheme c
+  pub laid-scheme :
+      schemeAt bs (length (frontBytes c) + 6) (lengthAt bs (length (frontBytes c)) / 12) ≡ contentsScheme c
   laid-scheme =
       scheme-of _ _ _ _ _ _ _ _
       (ap (λ b. twoAt b 6) laid-out ∙ two-back (c .points) (file .points-fit))

@@ -33,7 +33,8 @@ module _ (f : SchemeFile) (ok : Accepted f) where
       let lies = laid-lies bs c file in
       let behind : 12 ≤ ok .block = subst (λ p. 12 ≤ p) at (lies .0) in
       let inside : endAt bs (ok .block) ≤ length bs = subst (λ p. endAt bs p ≤ length bs) at (lies .1) in
-      let held : heldIn bs (f .rows) (f .count) ≡ f .count = held-all bs (f .rows) (f .count) (omega (arith, ok .begin)) (omega (arith, ok .begin, ok .whole)) in
+      let held : heldIn bs (f .rows) (f .count) ≡ f .count =
+      held-all bs (f .rows) (f .count) (omega (arith, ok .begin)) (omega (arith, ok .begin, ok .whole)) in
       let count : lengthAt bs (ok .block) / 12 ≡ heldIn bs (f .rows) (f .count) = omega (arith, held, ok .whole) in
       sym (laid-scheme bs c file)
       ∙ ap (λ p. schemeAt bs (p + 6) (lengthAt bs p / 12)) at

@@ -41,24 +41,31 @@ between-rest bs p n =
     sym (ap (λ m. take m (drop p bs) ++ drop (p + n) bs) size ∙ ap (λ l. take n (drop p bs) ++ l) (sym (drop-drop n p bs)) ∙ take-append-drop n (drop p bs))
 
 -- where the record ends, by its layout
-laid-by-end : (bs : List ℕ) (at : ℕ) (r : FileRecord) → lengthAt bs at ≡ length (bodyOf r) → drop at bs ≡ recordBytes r ++ drop (endAt bs at) bs → LaidAt bs at r
+laid-by-end :
+    (bs : List ℕ) (at : ℕ) (r : FileRecord) → lengthAt bs at ≡ length (bodyOf r)
+    → drop at bs ≡ recordBytes r ++ drop (endAt bs at) bs → LaidAt bs at r
 laid-by-end bs at r size laid =
     let end : endAt bs at ≡ at + length (recordBytes r) = omega (arith, size) in
     laid ∙ ap (λ e. recordBytes r ++ drop e bs) end
 
 module _ (bs : List ℕ) (at : ℕ) (bytes : Bytes bs) (inside : endAt bs at ≤ length bs) where
-  body-here : (body : List ℕ) → length body ≡ lengthAt bs at → body ≡ between (at + 6) (at + 6 + length body) bs → drop (at + 6) bs ≡ body ++ drop (endAt bs at) bs
+  body-here :
+      (body : List ℕ) → length body ≡ lengthAt bs at → body ≡ between (at + 6) (at + 6 + length body) bs
+      → drop (at + 6) bs ≡ body ++ drop (endAt bs at) bs
   body-here body size is =
       between-rest bs (at + 6) (length body)
       ∙ ap (λ l. l ++ drop (at + 6 + length body) bs) (sym is)
       ∙ ap (λ n. body ++ drop (at + 6 + n) bs) size
 
-  part-laid : (whole : kindAt bs at ≡ 2 → lengthAt bs at % 12 ≡ 0) (part : Part) → partKind part ≡ kindAt bs at → partSize part ≡ lengthAt bs at → ValuesAt bs (at + 6) part → LaidAt bs at (partRecord part)
+  part-laid :
+      (whole : kindAt bs at ≡ 2 → lengthAt bs at % 12 ≡ 0) (part : Part) → partKind part ≡ kindAt bs at
+      → partSize part ≡ lengthAt bs at → ValuesAt bs (at + 6) part → LaidAt bs at (partRecord part)
   part-laid whole (Head a n s t) kind size values =
       laid-by-end bs at (head n s t) (sym size) (head-at bs bytes at n s t inside (sym kind) (sym size) (values .0) (values .1) (values .2))
   part-laid whole (Rows a b) kind size values =
       let body = now b in
-      let here : Bytes body = subst Bytes (sym values) (between-bytes bs (at + 6) (length body) bytes (omega arith)) in
+      let here : Bytes body =
+      subst Bytes (sym values) (between-bytes bs (at + 6) (length body) bytes (omega arith)) in
       let rounded : length body % 12 ≡ 0 = ap (λ n. n % 12) size ∙ whole (sym kind) in
       let same = rows-of-bytes body here rounded in
       let r = rows (rowsAt body 0 (length body / 12)) in
@@ -67,6 +74,15 @@ module _ (bs : List ℕ) (at : ℕ) (bytes : Bytes bs) (inside : endAt bs at ≤
   part-laid whole (Note a b) kind size values =
       laid-by-end bs at (note (now b)) (sym size) (record-here bs bytes at (note (now b)) inside (sym kind) (sym size) (body-here (now b) size values))
 
-  pub part-at : (whole : kindAt bs at ≡ 2 → lengthAt bs at % 12 ≡ 0) (part : Part) → partPlace part ≡ at → partKind part ≡ kindAt bs at → partSize part ≡ lengthAt bs at → ValuesAt bs (at + 6) part → PartAt bs at part
+  pub part-at :
+      (whole : kindAt bs at ≡ 2 → lengthAt bs at % 12 ≡ 0) (part : Part) → partPlace part ≡ at
+      → partKind part ≡ kindAt bs at → partSize part ≡ lengthAt bs at → ValuesAt bs (at + 6) part → PartAt bs at part
   part-at whole part place kind size values =
-      record { place = place; kind = kind; size = size; values = values; laid = part-laid whole part kind size values }
+      record {
+        place =
+            place;
+        kind = kind;
+        size = size;
+        values = values;
+        laid = part-laid whole part kind size values;
+      }

@@ -88,11 +88,13 @@ module _ (bs : List ℕ) (p x : ℕ) (holds : p + 4 ≤ length bs) where
 
   pub fourAt-patched-here : x < 2 ^ 32 → fourAt (patched bs p x) p ≡ x
   fourAt-patched-here fits =
-      let first : getD (patched bs p x) p 0 ≡ x % 256 = ap (λ k. getD (patched bs p x) k 0) (sym (add-zero p)) ∙ patched-in 0 (omega arith) in
+      let first : getD (patched bs p x) p 0 ≡ x % 256 =
+      ap (λ k. getD (patched bs p x) k 0) (sym (add-zero p)) ∙ patched-in 0 (omega arith) in
       rw (first, patched-in 1 (omega arith), patched-in 2 (omega arith), patched-in 3 (omega arith)) (four-back x fits)
 
 -- what is left of a slice after a write to a part of it
-pub patched-part : (bs : List ℕ) (p e x : ℕ) (ys : List ℕ) → e ≡ p + 4 → ys ≡ four x → putMid p (e - p) bs ys ≡ patched bs p x
+pub patched-part :
+    (bs : List ℕ) (p e x : ℕ) (ys : List ℕ) → e ≡ p + 4 → ys ≡ four x → putMid p (e - p) bs ys ≡ patched bs p x
 patched-part bs p e x ys end is =
     let size : e - p ≡ 4 = omega arith in
     rw (size, is) (ap (λ tail. take p bs ++ (four x ++ tail)) (drop-drop 4 p bs))

@@ -17,8 +17,10 @@ module _ (bs : List ℕ) (p count : ℕ) where
   pub length-rows : length (rowsAt bs p count) ≡ count
   length-rows = length-map-counting (λ reach. rowAt bs (rowPlace p reach)) 0 count
 
-  pub getD-rows : (reach : ℕ) (d : Reach) → reach < count → getD (rowsAt bs p count) reach d ≡ rowAt bs (rowPlace p reach)
-  getD-rows reach d within = getD-map-counting (λ k. rowAt bs (rowPlace p k)) 0 count reach reach d within (omega arith)
+  pub getD-rows :
+      (reach : ℕ) (d : Reach) → reach < count → getD (rowsAt bs p count) reach d ≡ rowAt bs (rowPlace p reach)
+  getD-rows reach d within =
+      getD-map-counting (λ k. rowAt bs (rowPlace p k)) 0 count reach reach d within (omega arith)
 
   pub nth-rows : (reach : ℕ) → reach < count → nth (rowsAt bs p count) reach ≡ Some (rowAt bs (rowPlace p reach))
   nth-rows reach within =

@@ -20,9 +20,13 @@ pub record Field : Type 0 where
   pub offset : ℕ
   pub edit : ℕ → Reach → Reach
   pub small : offset ≤ 8
-  pub here : (bs : List ℕ) (p x : ℕ) → p + 12 ≤ length bs → x < 2 ^ 32 → rowAt (patched bs (p + offset) x) p ≡ edit x (rowAt bs p)
+  pub here :
+      (bs : List ℕ) (p x : ℕ) → p + 12 ≤ length bs → x < 2 ^ 32
+      → rowAt (patched bs (p + offset) x) p ≡ edit x (rowAt bs p)
 
-pub reach-of : (t t′ h h′ l l′ f f′ : ℕ) → t ≡ t′ → h ≡ h′ → l ≡ l′ → f ≡ f′ → _≡_ {A = Reach} (record { tail = t; head = h; limit = l; flow = f }) (record { tail = t′; head = h′; limit = l′; flow = f′ })
+pub reach-of :
+    (t t′ h h′ l l′ f f′ : ℕ) → t ≡ t′ → h ≡ h′ → l ≡ l′ → f ≡ f′
+    → _≡_ {A = Reach} (record { tail = t; head = h; limit = l; flow = f }) (record { tail = t′; head = h′; limit = l′; flow = f′ })
 reach-of t t′ h h′ l l′ f f′ et eh el ef = cc
 
 abbrev pub limit-field : Field
@@ -56,7 +60,8 @@ flow-field =
     }
 
 -- a row apart from the four bytes is as it was
-row-apart : (bs : List ℕ) (q x p : ℕ) → q + 4 ≤ length bs → (p + 12 ≤ q) ⊎ (q + 4 ≤ p) → rowAt (patched bs q x) p ≡ rowAt bs p
+row-apart :
+    (bs : List ℕ) (q x p : ℕ) → q + 4 ≤ length bs → (p + 12 ≤ q) ⊎ (q + 4 ≤ p) → rowAt (patched bs q x) p ≡ rowAt bs p
 row-apart bs q x p holds (inl before) =
     reach-of _ _ _ _ _ _ _ _
     (twoAt-patched bs q x holds p (inl (omega arith)))
@@ -70,11 +75,14 @@ row-apart bs q x p holds (inr after) =
     (fourAt-patched bs q x holds (p + 4) (inr (omega arith)))
     (fourAt-patched bs q x holds (p + 8) (inr (omega arith)))
 
-module _ (field : Field) (bs : List ℕ) (p count reach x : ℕ) (within : reach < count) (holds : p + 12 * count ≤ length bs) (fits : x < 2 ^ 32) where
+module _ (field : Field) (bs : List ℕ) (p count reach x : ℕ) (within : reach < count)
+    (holds : p + 12 * count ≤ length bs) (fits : x < 2 ^ 32) where
   after : List ℕ
   after = patched bs (rowPlace p reach + field .offset) x
 
-  row-after : (k : ℕ) (d : Reach) → k < count → getD (rowsAt after p count) k d ≡ getD (set (rowsAt bs p count) reach (field .edit x (rowAt bs (rowPlace p reach)))) k d
+  row-after :
+      (k : ℕ) (d : Reach) → k < count
+      → getD (rowsAt after p count) k d ≡ getD (set (rowsAt bs p count) reach (field .edit x (rowAt bs (rowPlace p reach)))) k d
   unfolding after
   row-after k d below =
       ⊎-elim
@@ -89,7 +97,8 @@ module _ (field : Field) (bs : List ℕ) (p count reach x : ℕ) (within : reach
       ∙ sym (getD-set-other (rowsAt bs p count) reach k _ d (⊎-elim (λ lt e. omega arith) (λ gt e. omega arith) apart)))
       (cases-order k reach)
 
-  pub rows-after : rowsAt (patched bs (rowPlace p reach + field .offset) x) p count ≡ changed (field .edit x) (rowsAt bs p count) reach
+  pub rows-after :
+      rowsAt (patched bs (rowPlace p reach + field .offset) x) p count ≡ changed (field .edit x) (rowsAt bs p count) reach
   unfolding after
   rows-after =
       same-lists _ _
@@ -99,7 +108,9 @@ module _ (field : Field) (bs : List ℕ) (p count reach x : ℕ) (within : reach
       (changed-at (field .edit x) (rowsAt bs p count) reach (rowAt bs (rowPlace p reach)) (omega (arith, length-rows bs p count))
       (sym (getD-rows bs p count reach _ within)))
 
-  pub scheme-after : 12 ≤ p → schemeAt (patched bs (rowPlace p reach + field .offset) x) p count ≡ over (schemeAt bs p count) (changed (field .edit x) (rowsAt bs p count) reach)
+  pub scheme-after :
+      12 ≤ p
+      → schemeAt (patched bs (rowPlace p reach + field .offset) x) p count ≡ over (schemeAt bs p count) (changed (field .edit x) (rowsAt bs p count) reach)
   scheme-after past =
       let q = rowPlace p reach + field .offset in
       let inside : q + 4 ≤ length bs = omega (arith, field .small) in

@@ -25,7 +25,9 @@ cases-asked None = inl refl
 cases-asked (Some x) = inr (x, refl)
 
 -- a walk that ends well goes past every record without a refusal
-pub walks-on : (turns : ℕ) (bs : List ℕ) (at : ℕ) (rows : Option ℕ) (block : ℕ) → at < length bs → walk (suc turns) bs at rows ≡ Ok block → askRecord bs at (isSome rows) ≡ None
+pub walks-on :
+    (turns : ℕ) (bs : List ℕ) (at : ℕ) (rows : Option ℕ) (block : ℕ) → at < length bs
+    → walk (suc turns) bs at rows ≡ Ok block → askRecord bs at (isSome rows) ≡ None
 walks-on turns bs at rows block within ends =
     ⊎-elim
     (λ none. none)
@@ -47,7 +49,9 @@ ending-ahead at (Some q) block ends = cc
 pub no-second : (bs : List ℕ) (at : ℕ) → askRecord bs at true ≡ None → kindAt bs at ≡ 2 → ⊥
 no-second bs at asked kind = grind (arith, tells)
 
-ahead-before : (bs : List ℕ) (at : ℕ) (rows : Option ℕ) (block : ℕ) → askRecord bs at (isSome rows) ≡ None → Ahead (rowsFrom bs at rows) (endAt bs at) block → Ahead rows at block
+ahead-before :
+    (bs : List ℕ) (at : ℕ) (rows : Option ℕ) (block : ℕ) → askRecord bs at (isSome rows) ≡ None
+    → Ahead (rowsFrom bs at rows) (endAt bs at) block → Ahead rows at block
 ahead-before bs at None block asked ahead =
     ⊎-elim
     (λ is. let here : at ≡ block = rw is at ahead in omega arith)
@@ -59,7 +63,9 @@ ahead-before bs at (Some q) block asked ahead =
     (λ other. rw other at ahead)
     (cases-bool (eqb (kindAt bs at) 2))
 
-pub walk-ahead : (turns : ℕ) (bs : List ℕ) (at : ℕ) (rows : Option ℕ) (block : ℕ) → walk turns bs at rows ≡ Ok block → Ahead rows at block
+pub walk-ahead :
+    (turns : ℕ) (bs : List ℕ) (at : ℕ) (rows : Option ℕ) (block : ℕ) → walk turns bs at rows ≡ Ok block
+    → Ahead rows at block
 walk-ahead zero bs at rows block ends = ending-ahead at rows block ends
 walk-ahead (suc turns) bs at rows block ends =
     ⊎-elim
@@ -74,13 +80,15 @@ walk-ahead (suc turns) bs at rows block ends =
 abbrev Behind : List ℕ → Option ℕ → ℕ → Type 0
 Behind bs rows at = Cases rows (Unit {0}) (λ q. endAt bs q ≤ at)
 
-behind-on : (bs : List ℕ) (at : ℕ) (rows : Option ℕ) → Behind bs rows at → Behind bs (rowsFrom bs at rows) (endAt bs at)
+behind-on :
+    (bs : List ℕ) (at : ℕ) (rows : Option ℕ) → Behind bs rows at → Behind bs (rowsFrom bs at rows) (endAt bs at)
 behind-on bs at None behind =
     ⊎-elim (λ is. rw is (omega arith)) (λ other. rw other tt) (cases-bool (eqb (kindAt bs at) 2))
 behind-on bs at (Some q) behind =
     ⊎-elim (λ is. rw is (omega arith)) (λ other. rw other (omega arith)) (cases-bool (eqb (kindAt bs at) 2))
 
-module _ (bs bs′ : List ℕ) (block : ℕ) (level : length bs′ ≡ length bs) (apart : (k : ℕ) → (k < block + 6) ⊎ (endAt bs block ≤ k) → getD bs′ k 0 ≡ getD bs k 0) where
+module _ (bs bs′ : List ℕ) (block : ℕ) (level : length bs′ ≡ length bs)
+    (apart : (k : ℕ) → (k < block + 6) ⊎ (endAt bs block ≤ k) → getD bs′ k 0 ≡ getD bs k 0) where
   -- a record's place is not inside the row block's body
   clear : (at : ℕ) (rows : Option ℕ) → Ahead rows at block → Behind bs rows at → (at ≤ block) ⊎ (endAt bs block ≤ at)
   clear at None ahead behind = inl ahead
@@ -91,22 +99,27 @@ module _ (bs bs′ : List ℕ) (block : ℕ) (level : length bs′ ≡ length bs
     byte-same k below = apart (at + k) (⊎-elim (λ before. inl (omega arith)) (λ after. inr (omega arith)) outside)
 
     pub length-same : lengthAt bs′ at ≡ lengthAt bs at
-    length-same = rw (apart at (⊎-elim (λ before. inl (omega arith)) (λ after. inr (omega arith)) outside), byte-same 1 (omega arith), byte-same 2 (omega arith), byte-same 3 (omega arith)) refl
+    length-same =
+        rw (apart at (⊎-elim (λ before. inl (omega arith)) (λ after. inr (omega arith)) outside), byte-same 1 (omega arith), byte-same 2 (omega arith), byte-same 3 (omega arith)) refl
 
     kind-same : kindAt bs′ at ≡ kindAt bs at
-    kind-same = rw (byte-same 4 (omega arith), apart (at + 4 + 1) (⊎-elim (λ before. inl (omega arith)) (λ after. inr (omega arith)) outside)) refl
+    kind-same =
+        rw (byte-same 4 (omega arith), apart (at + 4 + 1) (⊎-elim (λ before. inl (omega arith)) (λ after. inr (omega arith)) outside)) refl
 
     asked-same : (seen : Bool) → askRecord bs′ at seen ≡ askRecord bs at seen
     asked-same seen = rw (level, length-same, kind-same) refl
 
-  pub walk-same : (turns at : ℕ) (rows : Option ℕ) → Behind bs rows at → walk turns bs at rows ≡ Ok block → walk turns bs′ at rows ≡ Ok block
+  pub walk-same :
+      (turns at : ℕ) (rows : Option ℕ) → Behind bs rows at → walk turns bs at rows ≡ Ok block
+      → walk turns bs′ at rows ≡ Ok block
   walk-same zero at rows behind ends = ends
   walk-same (suc turns) at rows behind ends =
       ⊎-elim
       (λ within.
       let asked = walks-on turns bs at rows block within ends in
       let outside = clear at rows (walk-ahead (suc turns) bs at rows block ends) behind in
-      let more = walk-same turns (endAt bs at) (rowsFrom bs at rows) (behind-on bs at rows behind) (sym (walk-on turns bs at rows within asked) ∙ ends) in
+      let more =
+      walk-same turns (endAt bs at) (rowsFrom bs at rows) (behind-on bs at rows behind) (sym (walk-on turns bs at rows within asked) ∙ ends) in
       walk-on turns bs′ at rows (rw level within) (asked-same at outside (isSome rows) ∙ asked)
       ∙ rw (length-same at outside, kind-same at outside) more)
       (λ past. walk-all (suc turns) bs′ at rows (rw level past) ∙ sym (walk-all (suc turns) bs at rows past) ∙ ends)

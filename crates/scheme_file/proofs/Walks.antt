@@ -22,13 +22,18 @@ use Rattle.scheme_file.specs.Asked.{askRecord, walk, ending, rowsFrom, rowBloc
 use Rattle.scheme_file.specs.Reading.{RowsLie}
 
 module _ (turns : ℕ) (bs : List ℕ) (at : ℕ) (rows : Option ℕ) where
-  pub walk-on : at < length bs → askRecord bs at (isSome rows) ≡ None → walk (suc turns) bs at rows ≡ walk turns bs (endAt bs at) (rowsFrom bs at rows)
+  pub walk-on :
+      at < length bs → askRecord bs at (isSome rows) ≡ None
+      → walk (suc turns) bs at rows ≡ walk turns bs (endAt bs at) (rowsFrom bs at rows)
   walk-on within asked = rw (lt-ltb at (length bs) within, asked)
 
-  pub walk-refused : (refusal : Refusal) → at < length bs → askRecord bs at (isSome rows) ≡ Some refusal → walk (suc turns) bs at rows ≡ Err refusal
+  pub walk-refused :
+      (refusal : Refusal) → at < length bs → askRecord bs at (isSome rows) ≡ Some refusal
+      → walk (suc turns) bs at rows ≡ Err refusal
   walk-refused refusal within asked = rw (lt-ltb at (length bs) within, asked)
 
-pub walk-all : (turns : ℕ) (bs : List ℕ) (at : ℕ) (rows : Option ℕ) → length bs ≤ at → walk turns bs at rows ≡ ending at rows
+pub walk-all :
+    (turns : ℕ) (bs : List ℕ) (at : ℕ) (rows : Option ℕ) → length bs ≤ at → walk turns bs at rows ≡ ending at rows
 walk-all zero bs at rows past = refl
 walk-all (suc turns) bs at rows past = rw (le-ltb at (length bs) past)
 
@@ -67,7 +72,9 @@ pub walking-none : (bs : List ℕ) → Walking bs 0 None
 walking-none bs =
     record { turns = length bs; enough = omega arith; same = refl; past-head = λ lt. omega arith; lie = tt }
 
-rows-lie : (bs : List ℕ) (at : ℕ) (rows : Option ℕ) → Walking bs at rows → Taken bs at → Cases (rowsFrom bs at rows) (Unit {0}) (RowsLie bs)
+rows-lie :
+    (bs : List ℕ) (at : ℕ) (rows : Option ℕ) → Walking bs at rows → Taken bs at
+    → Cases (rowsFrom bs at rows) (Unit {0}) (RowsLie bs)
 rows-lie bs at rows w t =
     ⊎-elim
     (λ is.
@@ -87,7 +94,9 @@ rows-lie bs at rows w t =
 some-turns : (bs : List ℕ) (at : ℕ) (rows : Option ℕ) → (w : Walking bs at rows) → at < length bs → 0 < w .turns
 some-turns bs at rows w within = omega (arith, w .enough)
 
-pub walking-more : (bs : List ℕ) (at : ℕ) (rows : Option ℕ) → Walking bs at rows → at < length bs → askRecord bs at (isSome rows) ≡ None → Walking bs (endAt bs at) (rowsFrom bs at rows)
+pub walking-more :
+    (bs : List ℕ) (at : ℕ) (rows : Option ℕ) → Walking bs at rows → at < length bs
+    → askRecord bs at (isSome rows) ≡ None → Walking bs (endAt bs at) (rowsFrom bs at rows)
 walking-more bs at rows w within asked =
     let t = taken bs at (isSome rows) asked in
     let one : suc (pred (w .turns)) ≡ w .turns = suc-pred-eq-of-pos (some-turns bs at rows w within) in
@@ -104,7 +113,8 @@ module _ (bs : List ℕ) (at : ℕ) (rows : Option ℕ) (w : Walking bs at rows)
   rest : walk (w .turns) bs at rows ≡ rowBlock bs
   rest = w .same ∙ rw (le-leb (length bs) 65536 short) refl
 
-  pub walking-refused : (refusal : Refusal) → at < length bs → askRecord bs at (isSome rows) ≡ Some refusal → rowBlock bs ≡ Err refusal
+  pub walking-refused :
+      (refusal : Refusal) → at < length bs → askRecord bs at (isSome rows) ≡ Some refusal → rowBlock bs ≡ Err refusal
   walking-refused refusal within asked =
       let one : suc (pred (w .turns)) ≡ w .turns = suc-pred-eq-of-pos (some-turns bs at rows w within) in
       sym rest ∙ ap (λ n. walk n bs at rows) (sym one) ∙ walk-refused (pred (w .turns)) bs at rows refusal within asked
@@ -113,10 +123,15 @@ module _ (bs : List ℕ) (at : ℕ) (rows : Option ℕ) (w : Walking bs at rows)
   walking-all past = sym rest ∙ walk-all (w .turns) bs at rows past
 
 -- a record that was asked, by the answer that tells it
-pub asked-of : (bs : List ℕ) (at : ℕ) (rows : Option ℕ) (seen : Bool) (q : Option Refusal) → at < length bs → seen ≡ isSome rows → q ≡ cond (ltb at (length bs)) (askRecord bs at seen) None → askRecord bs at (isSome rows) ≡ q
-asked-of bs at rows seen q within e told = ap (askRecord bs at) (sym e) ∙ sym (told ∙ rw (lt-ltb at (length bs) within) refl)
+pub asked-of :
+    (bs : List ℕ) (at : ℕ) (rows : Option ℕ) (seen : Bool) (q : Option Refusal) → at < length bs → seen ≡ isSome rows
+    → q ≡ cond (ltb at (length bs)) (askRecord bs at seen) None → askRecord bs at (isSome rows) ≡ q
+asked-of bs at rows seen q within e told =
+    ap (askRecord bs at) (sym e) ∙ sym (told ∙ rw (lt-ltb at (length bs) within) refl)
 
-pub asked-within : (bs : List ℕ) (at : ℕ) (seen : Bool) (refusal : Refusal) → Some refusal ≡ cond (ltb at (length bs)) (askRecord bs at seen) None → at < length bs
+pub asked-within :
+    (bs : List ℕ) (at : ℕ) (seen : Bool) (refusal : Refusal)
+    → Some refusal ≡ cond (ltb at (length bs)) (askRecord bs at seen) None → at < length bs
 asked-within bs at seen refusal told =
     ⊎-elim
     (λ lt. lt)
