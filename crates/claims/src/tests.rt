@@ -4,88 +4,18 @@ use crate::reviewing::review;
 use std::alloc::Global;
 use std::test::*;
 
-// Four points, inlet 0, outlet 3; reaches 0→1, 0→2, 1→2, 1→3 and 2→3 of limits 5 4 3 2 7, all full. The numbers
-// are two or four bytes long, the low byte first.
-const PUBLISHED: [u8; 78] = [
-    6,
-    0,
-    0,
-    0,
-    1,
-    0,
-    4,
-    0,
-    0,
-    0,
-    3,
-    0, // head
-    60,
-    0,
-    0,
-    0,
-    2,
-    0, // rows
-    0,
-    0,
-    1,
-    0,
-    5,
-    0,
-    0,
-    0,
-    5,
-    0,
-    0,
-    0, //
-    0,
-    0,
-    2,
-    0,
-    4,
-    0,
-    0,
-    0,
-    4,
-    0,
-    0,
-    0, //
-    1,
-    0,
-    2,
-    0,
-    3,
-    0,
-    0,
-    0,
-    3,
-    0,
-    0,
-    0, //
-    1,
-    0,
-    3,
-    0,
-    2,
-    0,
-    0,
-    0,
-    2,
-    0,
-    0,
-    0, //
-    2,
-    0,
-    3,
-    0,
-    7,
-    0,
-    0,
-    0,
-    7,
-    0,
-    0,
-    0,
-];
+// Four points, inlet 0, outlet 3; reaches 0→1, 0→2, 1→2, 1→3 and 2→3 of limits 5 4 3 2 7, all full. A line each for
+// the header and the body of the head, for the header of the rows, and for each row.
+const PUBLISHED: &[u8; 78] = b"\
+    \x06\0\0\0\x01\0\
+    \x04\0\0\0\x03\0\
+    \x3c\0\0\0\x02\0\
+    \0\0\x01\0\x05\0\0\0\x05\0\0\0\
+    \0\0\x02\0\x04\0\0\0\x04\0\0\0\
+    \x01\0\x02\0\x03\0\0\0\x03\0\0\0\
+    \x01\0\x03\0\x02\0\0\0\x02\0\0\0\
+    \x02\0\x03\0\x07\0\0\0\x07\0\0\0\
+";
 
 // What is printed of a claim about the first bytes of the file.
 fn told(heap: Global, length: usize, side: &[u16]) -> Result<String, Fail> {

@@ -21,86 +21,18 @@ use std::alloc::AllocError;
 use std::alloc::Global;
 use std::test::*;
 
-pub(crate) const EXAMPLE: [u8; 78] = [
-    6,
-    0,
-    0,
-    0,
-    1,
-    0, // six bytes of kind 1
-    4,
-    0,
-    0,
-    0,
-    3,
-    0, // 4 points, inlet 0, outlet 3
-    60,
-    0,
-    0,
-    0,
-    2,
-    0, // sixty bytes of kind 2
-    0,
-    0,
-    1,
-    0,
-    5,
-    0,
-    0,
-    0,
-    0,
-    0,
-    0,
-    0, // 0 to 1, limit 5, flow 0
-    0,
-    0,
-    2,
-    0,
-    4,
-    0,
-    0,
-    0,
-    0,
-    0,
-    0,
-    0, // 0 to 2, limit 4, flow 0
-    1,
-    0,
-    2,
-    0,
-    3,
-    0,
-    0,
-    0,
-    0,
-    0,
-    0,
-    0, // 1 to 2, limit 3, flow 0
-    1,
-    0,
-    3,
-    0,
-    2,
-    0,
-    0,
-    0,
-    0,
-    0,
-    0,
-    0, // 1 to 3, limit 2, flow 0
-    2,
-    0,
-    3,
-    0,
-    6,
-    0,
-    0,
-    0,
-    0,
-    0,
-    0,
-    0, // 2 to 3, limit 6, flow 0
-];
+// Four points, inlet 0, outlet 3, and five reaches without flow: a line each for the header and the body of the head,
+// for the header of the rows, and for each row.
+pub(crate) const EXAMPLE: &[u8; 78] = b"\
+    \x06\0\0\0\x01\0\
+    \x04\0\0\0\x03\0\
+    \x3c\0\0\0\x02\0\
+    \0\0\x01\0\x05\0\0\0\0\0\0\0\
+    \0\0\x02\0\x04\0\0\0\0\0\0\0\
+    \x01\0\x02\0\x03\0\0\0\0\0\0\0\
+    \x01\0\x03\0\x02\0\0\0\0\0\0\0\
+    \x02\0\x03\0\x06\0\0\0\0\0\0\0\
+";
 
 fn reach(tail: u16, head: u16, limit: u32) -> Reach {
     Reach {
@@ -151,7 +83,7 @@ fn same_writes(a: &mut impl Book, b: &mut impl Book, reach: usize) -> Result<(),
 #[test]
 fn table_and_file_agree(rt: LibcRuntime) -> Result<(), Fail> {
     let mut table = Table::new(4, 0, 3, example_rows(rt.alloc())?);
-    let mut bytes = EXAMPLE;
+    let mut bytes = *EXAMPLE;
     let mut file = SchemeFile::open(&mut bytes)?;
     check_eq(file.reaches(), 5)?;
     check_eq(file.limit(4), Some(6))?;
@@ -165,10 +97,10 @@ fn table_and_file_agree(rt: LibcRuntime) -> Result<(), Fail> {
 
 #[test]
 fn a_write_leaves_every_other_byte() -> Result<(), Fail> {
-    let mut bytes = EXAMPLE;
+    let mut bytes = *EXAMPLE;
     let mut file = SchemeFile::open(&mut bytes)?;
     check_eq(file.set_flow(1, 16909060), Ok(()))?;
-    let mut want = EXAMPLE;
+    let mut want = *EXAMPLE;
     want[38] = 4;
     want[39] = 3;
     want[40] = 2;
@@ -189,7 +121,7 @@ fn points_of(bytes: &mut [u8]) -> Result<u16, CallFault> {
 
 #[test]
 fn a_fault_is_carried_up_whole() -> Result<(), Fail> {
-    let mut bytes = EXAMPLE;
+    let mut bytes = *EXAMPLE;
     check_eq(points_of(&mut bytes).ok(), Some(4))?;
     match points_of(&mut bytes[0..77]) {
         Ok(_) => Err(Fail::new("taken")),

@@ -148,7 +148,7 @@ fn asks_it_of_a_record_that_is_cut(rt: LibcRuntime) -> Result<(), Fail> {
         (5, 0),
         (1, 0),
     ] {
-        let mut file = Vec::from_slice(rt.alloc(), &EXAMPLE)?;
+        let mut file = Vec::from_slice(rt.alloc(), EXAMPLE)?;
         file.truncate(length);
         check_eq(told(&mut file), refused(2, place))?;
     }

@@ -10,87 +10,18 @@ pub type Dry = (u16, u16, u32);
 // Four points, inlet 0, outlet 3.
 pub const EXAMPLE: [Dry; 5] = [(0, 1, 5), (0, 2, 4), (1, 2, 3), (1, 3, 2), (2, 3, 6)];
 
-// The same as a scheme file: the low byte of a number comes first.
-pub const EXAMPLE_FILE: [u8; 78] = [
-    6,
-    0,
-    0,
-    0,
-    1,
-    0,
-    4,
-    0,
-    0,
-    0,
-    3,
-    0, // head
-    60,
-    0,
-    0,
-    0,
-    2,
-    0, // rows
-    0,
-    0,
-    1,
-    0,
-    5,
-    0,
-    0,
-    0,
-    0,
-    0,
-    0,
-    0, //
-    0,
-    0,
-    2,
-    0,
-    4,
-    0,
-    0,
-    0,
-    0,
-    0,
-    0,
-    0, //
-    1,
-    0,
-    2,
-    0,
-    3,
-    0,
-    0,
-    0,
-    0,
-    0,
-    0,
-    0, //
-    1,
-    0,
-    3,
-    0,
-    2,
-    0,
-    0,
-    0,
-    0,
-    0,
-    0,
-    0, //
-    2,
-    0,
-    3,
-    0,
-    6,
-    0,
-    0,
-    0,
-    0,
-    0,
-    0,
-    0,
-];
+// The same as a scheme file, a line each for the header and the body of the head, for the header of the rows, and
+// for each row.
+pub const EXAMPLE_FILE: &[u8; 78] = b"\
+    \x06\0\0\0\x01\0\
+    \x04\0\0\0\x03\0\
+    \x3c\0\0\0\x02\0\
+    \0\0\x01\0\x05\0\0\0\0\0\0\0\
+    \0\0\x02\0\x04\0\0\0\0\0\0\0\
+    \x01\0\x02\0\x03\0\0\0\0\0\0\0\
+    \x01\0\x03\0\x02\0\0\0\0\0\0\0\
+    \x02\0\x03\0\x06\0\0\0\0\0\0\0\
+";
 
 pub fn example(heap: Global) -> Result<Table, AllocError> {
     table(heap, 4, 0, 3, &EXAMPLE)

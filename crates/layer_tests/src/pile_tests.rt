@@ -97,7 +97,7 @@ fn over_a_table(rt: LibcRuntime) -> Result<(), Fail> {
 
 #[test]
 fn over_a_file() -> Result<(), Fail> {
-    let mut bytes = EXAMPLE_FILE;
+    let mut bytes = *EXAMPLE_FILE;
     takes_writes(&mut SchemeFile::open(&mut bytes)?, &PLAIN)?;
     turned_is_a_book(SchemeFile::open(&mut bytes)?)?;
     junction_is_a_book(SchemeFile::open(&mut bytes)?)?;
