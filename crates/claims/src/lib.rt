@@ -1,4 +1,6 @@
 // A published claim: a scheme file, and the points of a side that is said to hold its flow down.
+#![tactic(auto)]
+
 pub mod lines;
 pub mod marks;
 pub mod reviewing;

@@ -1,4 +1,6 @@
 // Prints scheme files: each record with its place, and then the register that the file is, or how it is refused.
+#![tactic(auto)]
+
 use scheme::{Refusal, Register};
 use scheme_file::{Part, SchemeFile, part_at};
 use std::{env, fs, io};

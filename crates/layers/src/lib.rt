@@ -1,4 +1,6 @@
 // Layers: registers that stand on any register, and books that stand on any book.
+#![tactic(auto)]
+
 mod gates;
 pub mod junction_laws;
 pub mod junctions;

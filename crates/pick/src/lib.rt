@@ -1,4 +1,6 @@
 // The priority queue over points that the ordering asks, and the kinds of it.
+#![tactic(auto)]
+
 pub mod either;
 pub mod picks;
 pub mod scans;

@@ -1,3 +1,5 @@
 // Tests of the lines of a report.
+#![tactic(auto)]
+
 #[cfg(test)]
 mod tests;

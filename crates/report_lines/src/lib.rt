@@ -1,4 +1,6 @@
 // The lines of a report as bytes, one at a time, with no memory asked for.
+#![tactic(auto)]
+
 mod lines;
 mod page;
 mod puts;

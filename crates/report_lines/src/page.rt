@@ -18,9 +18,9 @@ pub fn report_line<R: Register>(
     line: usize,
     table: &mut [u8; 4096],
 ) -> usize
-    ensures told { result ≡ length (line_bytes (scheme register.now) marks.now rounds line) }
+    ensures told { result ≡ length (line_bytes (R.scheme register.now) marks.now rounds line) }
     ensures table { table.new
-        ≡ written (line_bytes (scheme register.now) marks.now rounds line) table.old }
+        ≡ written (line_bytes (R.scheme register.now) marks.now rounds line) table.old }
 {
     if !is_side_of_shaped(register, marks) {
         return 0;
@@ -35,10 +35,10 @@ fn put_line<R: Register>(
     line: usize,
     table: &mut [u8],
 ) -> usize
-    requires register_len_bound { length (scheme register.now).reaches ≤ mostReaches }
+    requires register_len_bound { length (R.scheme register.now).reaches ≤ mostReaches }
     requires marks_len_bound { length marks.now ≤ mostPoints }
     requires table_len { length table.old ≡ 4096 }
-    ensures { Lays 0 (slice_index_or (lines_of_report (scheme register.now) marks.now rounds) line [])
+    ensures { Lays 0 (slice_index_or (lines_of_report (R.scheme register.now) marks.now rounds) line [])
         table.old table.new result }
 {
     match line {
@@ -53,8 +53,8 @@ fn put_line<R: Register>(
 
 // The value of a register that has no more reaches than it may have.
 fn value_of_few<R: Register>(register: &R) -> i64
-    requires { length (scheme register.now).reaches ≤ mostReaches }
-    ensures { result ≡ value (scheme register.now) }
+    requires { length (R.scheme register.now).reaches ≤ mostReaches }
+    ensures { result ≡ value (R.scheme register.now) }
 {
     value_unasked(register).unwrap_or(0)
 }
@@ -62,7 +62,7 @@ fn value_of_few<R: Register>(register: &R) -> i64
 // The line of a reach, or nothing where there is no such reach.
 fn put_flow<R: Register>(register: &R, reach: usize, table: &mut [u8]) -> usize
     requires { length table.old ≡ 4096 }
-    ensures { Lays 0 (flow_told reach (flow_at (scheme register.now) reach))
+    ensures { Lays 0 (flow_told reach (flow_at (R.scheme register.now) reach))
         table.old table.new result }
 {
     match register.flow(reach) {

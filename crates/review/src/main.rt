@@ -1,4 +1,6 @@
 // review POINT.. < FILE: reviews the claim that these points are a side which holds down the flow in the file.
+#![tactic(auto)]
+
 use anyhow::anyhow;
 use claims::{Stop, review};
 use std::env;

@@ -1,4 +1,6 @@
 // Registers and books of channels, the questions put to them, and the review of a published side.
+#![tactic(auto)]
+
 pub mod faults;
 pub mod questions;
 pub mod registers;

@@ -17,8 +17,8 @@ pub const GREATEST_LIMIT: u32 = 1_000_000;
 
 // What is asked before a book is opened: is it well formed?
 pub fn ask_form<R: Register>(register: &R) -> Result<(), BookFault>
-    ensures answer { refusal_of book_refusal result ≡ first_no (form_questions (scheme register.now)) }
-    ensures law { Decides (is_ok result) (WellFormed (scheme register.now)) }
+    ensures answer { refusal_of book_refusal result ≡ first_no (form_questions (R.scheme register.now)) }
+    ensures law { Decides (is_ok result) (WellFormed (R.scheme register.now)) }
 {
     if !is_shaped(register) {
         return Err(BookFault::Shape);
@@ -31,8 +31,8 @@ pub fn ask_form<R: Register>(register: &R) -> Result<(), BookFault>
 
 // What is asked of a book that has a flow: is it well formed, and is the flow lawful?
 pub fn ask_book<R: Register>(register: &R) -> Result<(), BookFault>
-    ensures answer { refusal_of book_refusal result ≡ first_no (book_questions (scheme register.now)) }
-    ensures law { Decides (is_ok result) (WellFormed (scheme register.now) × Lawful (scheme register.now)) }
+    ensures answer { refusal_of book_refusal result ≡ first_no (book_questions (R.scheme register.now)) }
+    ensures law { Decides (is_ok result) (WellFormed (R.scheme register.now) × Lawful (R.scheme register.now)) }
 {
     ask_form(register)?;
     if let Some(reach) = first_over(register) {
@@ -45,7 +45,7 @@ pub fn ask_book<R: Register>(register: &R) -> Result<(), BookFault>
 }
 
 fn is_shaped<R: Register>(register: &R) -> bool
-    ensures { result ≡ shaped (scheme register.now) }
+    ensures { result ≡ shaped (R.scheme register.now) }
 {
     let points = register.points();
     let inlet = register.inlet();
@@ -66,7 +66,7 @@ fn ends_fit(points: u16, tail: u16, head: u16, limit: u32) -> bool
 }
 
 fn reach_joins<R: Register>(register: &R, reach: usize) -> bool
-    ensures { result ≡ joins (scheme register.now) (slice_index_or (scheme register.now).reaches reach no_reach) }
+    ensures { result ≡ joins (R.scheme register.now) (slice_index_or (R.scheme register.now).reaches reach no_reach) }
 {
     // an absent field stands for 0: the callers ask only of reaches that are in the list
     let tail = register.tail(reach).unwrap_or(0);
@@ -76,7 +76,7 @@ fn reach_joins<R: Register>(register: &R, reach: usize) -> bool
 }
 
 fn first_loose<R: Register>(register: &R) -> Option<usize>
-    ensures { result ≡ first_fail (joins (scheme register.now)) 0 (scheme register.now).reaches }
+    ensures { result ≡ first_fail (joins (R.scheme register.now)) 0 (R.scheme register.now).reaches }
 {
     let count = register.reaches();
     for reach in 0..count {
@@ -88,13 +88,13 @@ fn first_loose<R: Register>(register: &R) -> Option<usize>
 }
 
 fn reach_carries<R: Register>(register: &R, reach: usize) -> bool
-    ensures { result ≡ carries (slice_index_or (scheme register.now).reaches reach no_reach) }
+    ensures { result ≡ carries (slice_index_or (R.scheme register.now).reaches reach no_reach) }
 {
     register.flow(reach).unwrap_or(0) <= register.limit(reach).unwrap_or(0)
 }
 
 fn first_over<R: Register>(register: &R) -> Option<usize>
-    ensures { result ≡ first_fail carries 0 (scheme register.now).reaches }
+    ensures { result ≡ first_fail carries 0 (R.scheme register.now).reaches }
 {
     let count = register.reaches();
     for reach in 0..count {
@@ -114,8 +114,8 @@ fn point_stands(point: u16, inlet: u16, outlet: u16, inflow: u64, outflow: u64) 
 
 // The first inner point whose inflow is not its outflow.
 fn first_unbalanced<R: Register>(register: &R) -> Option<u16>
-    requires { length (scheme register.now).reaches ≤ 8192 }
-    ensures { result ≡ first_point (steady (scheme register.now)) 0 (scheme register.now).points }
+    requires { length (R.scheme register.now).reaches ≤ 8192 }
+    ensures { result ≡ first_point (steady (R.scheme register.now)) 0 (R.scheme register.now).points }
 {
     let points = register.points();
     let count = register.reaches();

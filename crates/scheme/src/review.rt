@@ -13,8 +13,8 @@ use crate::sums::add_if;
 
 // The value of the flow, signed.
 pub fn value_of<R: Register>(register: &R) -> Result<i64, CallFault>
-    ensures answer { refusal_of call_refusal result ≡ first_no (book_questions (scheme register.now)) }
-    ensures value { IfOk result (λ z. z ≡ value (scheme register.now)) }
+    ensures answer { refusal_of call_refusal result ≡ first_no (book_questions (R.scheme register.now)) }
+    ensures value { IfOk result (λ z. z ≡ value (R.scheme register.now)) }
 {
     ask_book(register)?;
     Ok(net_outflow(register))
@@ -22,9 +22,9 @@ pub fn value_of<R: Register>(register: &R) -> Result<i64, CallFault>
 
 // Reviews a list of marks, one for each point: 1 for a point of the side, 0 for any other.
 pub fn check<R: Register>(register: &R, marks: &[u8]) -> Result<(), CallFault>
-    ensures answer { refusal_of call_refusal result ≡ first_no (check_questions (scheme register.now) marks.now) }
-    ensures law { ReviewDecides (scheme register.now) marks.now (is_ok result) }
-    ensures greatest { is_ok result ≡ true → Meet (scheme register.now) (marked marks.now) }
+    ensures answer { refusal_of call_refusal result ≡ first_no (check_questions (R.scheme register.now) marks.now) }
+    ensures law { ReviewDecides (R.scheme register.now) marks.now (is_ok result) }
+    ensures greatest { is_ok result ≡ true → Meet (R.scheme register.now) (marked marks.now) }
 {
     ask_book(register)?;
     if !is_side(register, marks) {
@@ -38,8 +38,8 @@ pub fn check<R: Register>(register: &R, marks: &[u8]) -> Result<(), CallFault>
 
 // What leaves the inlet less what enters it.
 fn net_outflow<R: Register>(register: &R) -> i64
-    requires { length (scheme register.now).reaches ≤ 8192 }
-    ensures { result ≡ value (scheme register.now) }
+    requires { length (R.scheme register.now).reaches ≤ 8192 }
+    ensures { result ≡ value (R.scheme register.now) }
 {
     let inlet = register.inlet();
     let count = register.reaches();
@@ -64,9 +64,9 @@ fn mark_fits(at_inlet: bool, at_outlet: bool, mark: u8) -> bool
 
 // Is there a mark for each point, and does each fit? It stops at the first that does not.
 fn is_side<R: Register>(register: &R, marks: &[u8]) -> bool
-    requires register_bound { (scheme register.now).inlet < (scheme register.now).points }
-    requires register_bound_2 { (scheme register.now).outlet < (scheme register.now).points }
-    ensures { result ≡ sided (scheme register.now) marks.now }
+    requires register_bound { (R.scheme register.now).inlet < (R.scheme register.now).points }
+    requires register_bound_2 { (R.scheme register.now).outlet < (R.scheme register.now).points }
+    ensures { result ≡ sided (R.scheme register.now) marks.now }
 {
     let inlet = usize::from(register.inlet());
     let outlet = usize::from(register.outlet());
@@ -89,8 +89,8 @@ fn is_marked(marks: &[u8], point: u16) -> bool
 
 // Is the value of the flow the side's capacity?
 fn is_tight<R: Register>(register: &R, marks: &[u8]) -> bool
-    requires { length (scheme register.now).reaches ≤ 8192 }
-    ensures { result ≡ tight (scheme register.now) marks.now }
+    requires { length (R.scheme register.now).reaches ≤ 8192 }
+    ensures { result ≡ tight (R.scheme register.now) marks.now }
 {
     let inlet = register.inlet();
     let count = register.reaches();

@@ -1,4 +1,6 @@
 // Scheme files: a run of records, read, refused with a place, and used where they lie as a book.
+#![tactic(auto)]
+
 pub mod files;
 mod numbers;
 pub mod parts;

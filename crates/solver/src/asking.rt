@@ -16,7 +16,7 @@ pub(crate) fn tables_hold<R: Register>(
     place: usize,
     need: usize,
 ) -> bool
-    ensures { result ≡ hold_all (scheme register.now).points (order ∷ place ∷ need ∷ []) }
+    ensures { result ≡ hold_all (R.scheme register.now).points (order ∷ place ∷ need ∷ []) }
 {
     let points = usize::from(register.points());
     points <= order && points <= place && points <= need
@@ -29,11 +29,11 @@ pub(crate) fn ask_ordering<R: Register, P: Pick>(
     hold: bool,
 ) -> Result<(), CallFault>
     ensures answer { refusal_of call_refusal result
-        ≡ first_no (ordering_questions (scheme register.now) hold (held pick.old)) }
+        ≡ first_no (ordering_questions (R.scheme register.now) hold (P.held pick.old)) }
     ensures pick { MatchResult result
-        (λ _. held pick.new ≡ started (size (held pick.old)) (scheme register.now).points)
-        (λ _. held pick.new ≡ held pick.old) }
-    ensures size { size (held pick.new) ≡ size (held pick.old) }
+        (λ _. P.held pick.new ≡ started (size (P.held pick.old)) (R.scheme register.now).points)
+        (λ _. P.held pick.new ≡ P.held pick.old) }
+    ensures size { size (P.held pick.new) ≡ size (P.held pick.old) }
 {
     ask_book(register)?;
     if !hold {

@@ -25,13 +25,13 @@ pub fn cut<R: Register, P: Pick>(
     need: &mut [u64],
     marks: &mut [u8],
 ) -> Result<u64, CallFault>
-    ensures does { CutDoes (scheme register.now)
-        (work_of order.old place.old need.old) (held pick.old)
+    ensures does { CutDoes (R.scheme register.now)
+        (work_of order.old place.old need.old) (P.held pick.old)
         marks.old result
-        (work_of order.new place.new need.new) (held pick.new)
+        (work_of order.new place.new need.new) (P.held pick.new)
         marks.new }
-    ensures law { IfOk result (LeastCut (scheme register.now) (marked marks.new)) }
-    ensures gap { result ≡ Err Gains → StillAGap (scheme register.now) }
+    ensures law { IfOk result (LeastCut (R.scheme register.now) (marked marks.new)) }
+    ensures gap { result ≡ Err Gains → StillAGap (R.scheme register.now) }
 {
     let hold = all_hold(register, marks.len(), order.len(), place.len(), need.len());
     ask_ordering(register, pick, hold)?;
@@ -54,7 +54,7 @@ fn all_hold<R: Register>(
     place: usize,
     need: usize,
 ) -> bool
-    ensures { result ≡ hold_all (scheme register.now).points (marks ∷ order ∷ place ∷ need ∷ []) }
+    ensures { result ≡ hold_all (R.scheme register.now).points (marks ∷ order ∷ place ∷ need ∷ []) }
 {
     usize::from(register.points()) <= marks && tables_hold(register, order, place, need)
 }

@@ -8,7 +8,7 @@ use scheme::Register;
 
 // The least reach from `from` on that begins or ends at the point, if there is one.
 pub(crate) fn next_touching<R: Register>(register: &R, point: u16, from: usize) -> Option<usize>
-    ensures { result ≡ next_that_touches (scheme register.now).reaches point from }
+    ensures { result ≡ next_that_touches (R.scheme register.now).reaches point from }
 {
     let count = register.reaches();
     for reach in from..count {
@@ -20,7 +20,7 @@ pub(crate) fn next_touching<R: Register>(register: &R, point: u16, from: usize) 
 }
 
 fn reach_touches<R: Register>(register: &R, point: u16, reach: usize) -> bool
-    ensures { result ≡ touches point (slice_index_or (scheme register.now).reaches reach no_reach) }
+    ensures { result ≡ touches point (slice_index_or (R.scheme register.now).reaches reach no_reach) }
 {
     // an absent end stands for 0: the caller asks only of reaches that are in the list
     let tail = register.tail(reach).unwrap_or(0);

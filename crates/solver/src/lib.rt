@@ -1,4 +1,6 @@
 // The solver: six calls on any book, with any pick, and the run of a list of them.
+#![tactic(auto)]
+
 pub mod answers;
 mod asking;
 pub mod asks;

@@ -36,8 +36,8 @@ pub fn limit<B: Book>(book: &mut B, reach: usize, limit: u32) -> Result<u32, Cal
 // What is asked before a limit is changed; the answer is the old limit.
 fn ask_limit<R: Register>(register: &R, reach: usize, limit: u32) -> Result<u32, CallFault>
     ensures answer { refusal_of call_refusal result
-        ≡ first_no (limit_questions (scheme register.now) reach limit) }
-    ensures old { IfOk result (λ x. x ≡ (slice_index_or (scheme register.now).reaches reach no_reach).limit) }
+        ≡ first_no (limit_questions (R.scheme register.now) reach limit) }
+    ensures old { IfOk result (λ x. x ≡ (slice_index_or (R.scheme register.now).reaches reach no_reach).limit) }
 {
     ask_book(register)?;
     if reach >= register.reaches() {
@@ -56,7 +56,7 @@ fn ask_limit<R: Register>(register: &R, reach: usize, limit: u32) -> Result<u32,
 
 // Answers the value of the flow, signed.
 pub fn value<R: Register>(register: &R) -> Result<i64, CallFault>
-    ensures { ValueDoes (scheme register.now) result }
+    ensures { ValueDoes (R.scheme register.now) result }
 {
     value_of(register)
 }

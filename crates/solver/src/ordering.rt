@@ -21,15 +21,15 @@ pub(crate) fn make_ordering<R: Register, P: Pick>(
     order: &mut [u16],
     place: &mut [u16],
 ) -> Rounded
-    requires formed { WellFormed (scheme register.now) }
-    requires lawful { Lawful (scheme register.now) }
-    requires listed { (scheme register.now).points ≤ length order.old }
-    requires placed { (scheme register.now).points ≤ length place.old }
-    requires begun { held pick.old ≡ started (size (held pick.old)) (scheme register.now).points }
-    requires room { (scheme register.now).points ≤ size (held pick.old) }
-    ensures made { OrderingMade (scheme register.now) order.old place.old
+    requires formed { WellFormed (R.scheme register.now) }
+    requires lawful { Lawful (R.scheme register.now) }
+    requires listed { (R.scheme register.now).points ≤ length order.old }
+    requires placed { (R.scheme register.now).points ≤ length place.old }
+    requires begun { P.held pick.old ≡ started (size (P.held pick.old)) (R.scheme register.now).points }
+    requires room { (R.scheme register.now).points ≤ size (P.held pick.old) }
+    ensures made { OrderingMade (R.scheme register.now) order.old place.old
         result.gain result.length order.new place.new }
-    ensures size { size (held pick.new) ≡ size (held pick.old) }
+    ensures size { size (P.held pick.new) ≡ size (P.held pick.old) }
 {
     clear_places(place, register.points());
     let inlet = take_inlet(register, pick);
@@ -39,13 +39,13 @@ pub(crate) fn make_ordering<R: Register, P: Pick>(
 
 // Gives the inlet the greatest key, so that it is taken first, and takes it.
 fn take_inlet<R: Register, P: Pick>(register: &R, pick: &mut P) -> u16
-    requires formed { WellFormed (scheme register.now) }
-    requires begun { held pick.old ≡ started (size (held pick.old)) (scheme register.now).points }
-    requires room { (scheme register.now).points ≤ size (held pick.old) }
-    ensures inlet { result ≡ (scheme register.now).inlet }
-    ensures after { HoldsKeys (scheme register.now) (points_of [])
-        (points_of ((scheme register.now).inlet ∷ [])) (held pick.new) }
-    ensures size { size (held pick.new) ≡ size (held pick.old) }
+    requires formed { WellFormed (R.scheme register.now) }
+    requires begun { P.held pick.old ≡ started (size (P.held pick.old)) (R.scheme register.now).points }
+    requires room { (R.scheme register.now).points ≤ size (P.held pick.old) }
+    ensures inlet { result ≡ (R.scheme register.now).inlet }
+    ensures after { HoldsKeys (R.scheme register.now) (points_of [])
+        (points_of ((R.scheme register.now).inlet ∷ [])) (P.held pick.new) }
+    ensures size { size (P.held pick.new) ≡ size (P.held pick.old) }
 {
     // no other key is above 0, so the raise is not refused and the inlet is the one that is taken
     let _ = pick.raise(register.inlet(), GREATEST_KEY);
@@ -60,14 +60,14 @@ fn take_the_rest<R: Register, P: Pick>(
     order: &mut [u16],
     place: &mut [u16],
 ) -> Rounded
-    requires formed { WellFormed (scheme register.now) }
-    requires lawful { Lawful (scheme register.now) }
-    requires listed { (scheme register.now).points ≤ length order.old }
-    requires placed { (scheme register.now).points ≤ length place.old }
-    requires begun { OrderBegun (scheme register.now) order.old place.old (held pick.old) }
-    ensures made { OrderingMade (scheme register.now) order.old place.old
+    requires formed { WellFormed (R.scheme register.now) }
+    requires lawful { Lawful (R.scheme register.now) }
+    requires listed { (R.scheme register.now).points ≤ length order.old }
+    requires placed { (R.scheme register.now).points ≤ length place.old }
+    requires begun { OrderBegun (R.scheme register.now) order.old place.old (P.held pick.old) }
+    ensures made { OrderingMade (R.scheme register.now) order.old place.old
         result.gain result.length order.new place.new }
-    ensures size { size (held pick.new) ≡ size (held pick.old) }
+    ensures size { size (P.held pick.new) ≡ size (P.held pick.old) }
 {
     let outlet = register.outlet();
     let mut last = register.inlet();

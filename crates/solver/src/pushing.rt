@@ -113,7 +113,7 @@ fn push_reach<B: Book>(book: &mut B, place: &[u16], need: &mut [u64], point: u16
 }
 
 fn read_reach<R: Register>(register: &R, reach: usize) -> Reach
-    ensures { result ≡ slice_index_or (scheme register.now).reaches reach no_reach }
+    ensures { result ≡ slice_index_or (R.scheme register.now).reaches reach no_reach }
 {
     // an absent field stands for 0: the caller asks only of reaches that are in the list
     Reach {

@@ -12,12 +12,12 @@ use scheme::Register;
 
 // Raises each outside point by what is left along every reach from the point, which is inside.
 pub(crate) fn raise_neighbours<R: Register, P: Pick>(register: &R, pick: &mut P, point: u16)
-    requires formed { WellFormed (scheme register.now) }
-    requires inside { key_of (held pick.old) point ≡ None }
-    requires room { RoomToGrow point (scheme register.now).reaches (held pick.old) }
-    ensures grown { GrownFrom point (scheme register.now).reaches
-        (held pick.old) (held pick.new) }
-    ensures size { size (held pick.new) ≡ size (held pick.old) }
+    requires formed { WellFormed (R.scheme register.now) }
+    requires inside { key_of (P.held pick.old) point ≡ None }
+    requires room { RoomToGrow point (R.scheme register.now).reaches (P.held pick.old) }
+    ensures grown { GrownFrom point (R.scheme register.now).reaches
+        (P.held pick.old) (P.held pick.new) }
+    ensures size { size (P.held pick.new) ≡ size (P.held pick.old) }
 {
     let mut next = next_touching(register, point, 0);
     while let Some(reach) = next {
@@ -30,8 +30,8 @@ pub(crate) fn raise_neighbours<R: Register, P: Pick>(register: &R, pick: &mut P,
 
 // The other end of a reach at the point, and what is left along the reach from the point to it.
 fn left_from<R: Register>(register: &R, reach: usize, point: u16) -> (u16, u64)
-    ensures end { result.0 ≡ other_end point (slice_index_or (scheme register.now).reaches reach no_reach) }
-    ensures left { result.1 ≡ left_from_point point (slice_index_or (scheme register.now).reaches reach no_reach) }
+    ensures end { result.0 ≡ other_end point (slice_index_or (R.scheme register.now).reaches reach no_reach) }
+    ensures left { result.1 ≡ left_from_point point (slice_index_or (R.scheme register.now).reaches reach no_reach) }
 {
     // an absent field stands for 0: the caller asks only of reaches that are in the list
     let tail = register.tail(reach).unwrap_or(0);
@@ -48,9 +48,9 @@ fn left_from<R: Register>(register: &R, reach: usize, point: u16) -> (u16, u64)
 
 // Takes an outside point with the greatest key, and tells the key too. The caller knows that some point is outside.
 pub(crate) fn take_greatest<P: Pick>(pick: &mut P) -> (u16, u64)
-    requires { NoneOutside (held pick.old) → ⊥ }
-    ensures taken { Taken (held pick.old) result.0 result.1 (held pick.new) }
-    ensures size { size (held pick.new) ≡ size (held pick.old) }
+    requires { NoneOutside (P.held pick.old) → ⊥ }
+    ensures taken { Taken (P.held pick.old) result.0 result.1 (P.held pick.new) }
+    ensures size { size (P.held pick.new) ≡ size (P.held pick.old) }
 {
     pick.take().unwrap()
 }

@@ -1,4 +1,6 @@
 // Tests of the solver's calls over tables, files in place and piles of layers, with every kind of pick.
+#![tactic(auto)]
+
 #[cfg(test)]
 mod desks;
 #[cfg(test)]

@@ -1,5 +1,7 @@
 // Settles scheme files that were made elsewhere and prints what came of each, in the form in which an independent solver's
 // answers are stored: name, points, reaches, value, and the points of the pinch.
+#![tactic(auto)]
+
 use anyhow::anyhow;
 use claims::side_text;
 use pick::{Pick, Scan};
