@@ -17,9 +17,9 @@ loop-point-preserved c =
     let next : side_from v (drop v marks) ≡ cond (eqb (get_or marks v 0) 1) (codes " " ++ decimal v) [] ++ side_from (v + 1) (drop (v + 1) marks) = at_drop_more (side_from v) marks v 0 c.loop-point-test.true in
     elim c.if-mark-eq1.branch [
       | then-mark-eq1+in-ok-point-text+in-ok-push-str w ↦
-          let piece = w.in-ok-point-text.ensures in
-          let pushed = w.in-ok-push-str.ensures.bytes in
-          let shown = w.as-str.ensures.value in
+          let piece = w.in_ok-point_text.ensures in
+          let pushed = w.in_ok-push_str.ensures.bytes in
+          let shown = w.as_str.ensures.value in
           let here : cond (eqb (get_or marks v 0) 1) (codes " " ++ decimal v) [] ≡ codes " " ++ decimal v = cond-true _ _ _ (eq-eqb _ 1 w.if-mark-eq1.true) in
           let longer : string_bytes c.if-mark-eq1.text ≡ string_bytes c.loop-point.text ++ (codes " " ++ decimal v) = ap string_bytes w.text-is ∙ pushed ∙ ap (λ t. string_bytes c.loop-point.text ++ t) (shown ∙ piece) in
           one_more (string_bytes c.loop-point.text) _ _ _ _ _ longer (next ∙ ap (λ p. p ++ side_from (v + 1) (drop (v + 1) marks)) here) c.loop-point.invariant

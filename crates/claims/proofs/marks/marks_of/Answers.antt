@@ -9,11 +9,11 @@ use Rattle.claims.proofs.marks.marks_of.Goals as goal
 
 pub loop-point-init : goal.loop-point-init
 loop-point-init c =
-    let zeros = unmarked _ (vec_items c.in-ok-marks.marks) (c.in-ok-marks.ensures.items-if-clones-equal (λ y e. e)) in
-    (zeros.count ∙ c.extent-of.ensures, zeros.bits, zeros.none)
+    let zeros = unmarked _ (vec_items c.in_ok-marks.marks) (c.in_ok-marks.ensures.items-if-clones-equal (λ y e. e)) in
+    (zeros.count ∙ c.extent_of.ensures, zeros.bits, zeros.none)
 
-pub index-mut-requires : goal.index-mut-requires
-index-mut-requires c =
+pub index_mut-requires : goal.index_mut-requires
+index_mut-requires c =
     let room = extent_covers c.args.points c.args.side.now c.loop-point.point-index c.loop-point-test.true in
     omega (arith, c.loop-point.invariant.0, c.loop-point.marks.ok.0)
 

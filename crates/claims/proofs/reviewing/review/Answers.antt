@@ -9,40 +9,40 @@ use Rattle.claims.specs.Reviews.{Reviewed}
 use Rattle.claims.specs.Sides.{MarksOf}
 use Rattle.claims.proofs.reviewing.review.Goals as goal
 
-pub returns-in-err-check : goal.returns-in-err-check
-returns-in-err-check c =
-    let s = file_scheme c.in-ok-file.file in
+pub returns-in_err-check : goal.returns-in_err-check
+returns-in_err-check c =
+    let s = file_scheme c.in_ok-file.file in
     let side = c.args.side.now in
-    let marks = vec_items c.in-ok-marks.marks in
-    let p = err_from_is_err_and c.from-residual-in-err-check.result c.from-residual-in-err-check.ensures.1 in
-    let members : MarksOf s.points side marks = subst (λ n. MarksOf n side marks) c.points-points.ensures c.in-ok-marks.ensures in
-    let asked = sym (c.in-err-check.ensures.answer ∙ ap (λ ms. first_no (check_questions s ms)) c.as-slice.ensures.value) in
+    let marks = vec_items c.in_ok-marks.marks in
+    let p = err_from_is_err_and c.from_residual-in_err-check.result c.from_residual-in_err-check.ensures.1 in
+    let members : MarksOf s.points side marks = subst (λ n. MarksOf n side marks) c.points-points.ensures c.in_ok-marks.ensures in
+    let asked = sym (c.in_err-check.ensures.answer ∙ ap (λ ms. first_no (check_questions s ms)) c.as_slice.ensures.value) in
     subst (Reviewed c.args.bytes.now side) (sym (p.1 ∙ ap Err p.2))
-    (inr (s, (marks, record { file = c.in-ok-file.ensures.means; members = members; check = asked })))
+    (inr (s, (marks, record { file = c.in_ok-file.ensures.means; members = members; check = asked })))
 
-pub returns-in-err-value : goal.returns-in-err-value
-returns-in-err-value c =
-    let s = file_scheme c.in-ok-file.file in
+pub returns-in_err-value : goal.returns-in_err-value
+returns-in_err-value c =
+    let s = file_scheme c.in_ok-file.file in
     let side = c.args.side.now in
-    let marks = vec_items c.in-ok-marks.marks in
-    let p = err_from_is_err_and c.from-residual-in-err-value.result c.from-residual-in-err-value.ensures.1 in
-    let members : MarksOf s.points side marks = subst (λ n. MarksOf n side marks) c.points-points.ensures c.in-ok-marks.ensures in
-    let asked = sym (refuses_all (book_questions s) (side_questions s marks) (sym c.in-err-value.ensures.answer)) in
+    let marks = vec_items c.in_ok-marks.marks in
+    let p = err_from_is_err_and c.from_residual-in_err-value.result c.from_residual-in_err-value.ensures.1 in
+    let members : MarksOf s.points side marks = subst (λ n. MarksOf n side marks) c.points-points.ensures c.in_ok-marks.ensures in
+    let asked = sym (refuses_all (book_questions s) (side_questions s marks) (sym c.in_err-value.ensures.answer)) in
     subst (Reviewed c.args.bytes.now side) (sym (p.1 ∙ ap Err p.2))
-    (inr (s, (marks, record { file = c.in-ok-file.ensures.means; members = members; check = asked })))
+    (inr (s, (marks, record { file = c.in_ok-file.ensures.means; members = members; check = asked })))
 
 pub returns : goal.returns
 returns c =
-    let s = file_scheme c.in-ok-file.file in
+    let s = file_scheme c.in_ok-file.file in
     let side = c.args.side.now in
-    let marks = vec_items c.in-ok-marks.marks in
-    let members : MarksOf s.points side marks = subst (λ n. MarksOf n side marks) c.points-points.ensures c.in-ok-marks.ensures in
-    let asked = sym (c.in-ok-check.ensures.answer ∙ ap (λ ms. first_no (check_questions s ms)) c.as-slice.ensures.value) in
-    let fits : SFits w64 c.in-ok-value.value = search rules in
+    let marks = vec_items c.in_ok-marks.marks in
+    let members : MarksOf s.points side marks = subst (λ n. MarksOf n side marks) c.points-points.ensures c.in_ok-marks.ensures in
+    let asked = sym (c.in_ok-check.ensures.answer ∙ ap (λ ms. first_no (check_questions s ms)) c.as_slice.ensures.value) in
+    let fits : SFits w64 c.in_ok-value.value = search rules in
     record {
       scheme = s;
-      asked = record { file = c.in-ok-file.ensures.means; members = members; check = asked };
+      asked = record { file = c.in_ok-file.ensures.means; members = members; check = asked };
       points = c.points-points.ensures;
       reaches = c.reaches-reaches.ensures;
-      value_is = to_z-of_z w64 c.in-ok-value.value fits ∙ c.in-ok-value.ensures.value;
+      value_is = to_z-of_z w64 c.in_ok-value.value fits ∙ c.in_ok-value.ensures.value;
     }

@@ -4,5 +4,5 @@ use Rattle.report_lines.proofs.lines.put_number_line.Goals as goal
 
 pub returns : goal.returns
 returns c =
-    then (omega arith) c.put-text-number.ensures
-    (then (omega (arith, c.put-text-number.ensures.place)) c.put-number-end.ensures.lays c.put-text.ensures)
+    then (omega arith) c.put_text-number.ensures
+    (then (omega (arith, c.put_text-number.ensures.place)) c.put_number-end.ensures.lays c.put_text.ensures)

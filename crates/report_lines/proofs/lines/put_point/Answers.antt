@@ -5,5 +5,5 @@ use Rattle.report_lines.proofs.lines.put_point.Goals as goal
 
 pub returns : goal.returns
 returns c =
-    let lays = then (omega arith) c.put-text-number.ensures c.put-number.ensures.lays in
+    let lays = then (omega arith) c.put_text-number.ensures c.put_number.ensures.lays in
     record { lays = lays; short = omega (arith, lays.place, length-decimal-le 3 c.args.point (omega arith) (omega arith) (omega arith)) }

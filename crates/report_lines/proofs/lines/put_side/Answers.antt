@@ -18,7 +18,7 @@ loop-point-preserved c =
       | then-mark-eq1 w ↦
           let here : side_point v (get_or marks v 0) ≡ codes " " ++ decimal v = cond-true _ _ _ (eq-eqb _ 1 w.if-mark-eq1.true) in
           let whole = subst at_all (next ∙ ap (λ piece. piece ++ rest) here) c.loop-point.invariant.0 in
-          let point = w.put-point-behind.ensures.lays in
+          let point = w.put_point-behind.ensures.lays in
           (to_come (codes " " ++ decimal v) rest (omega arith) (record { table = w.table-is ∙ point.table; place = w.behind-is ∙ point.place }) whole, omega arith)
       | else-mark-eq1 w ↦
           let here : side_point v (get_or marks v 0) ≡ [] = cond-false _ _ _ (ne_eqb _ 1 w.if-mark-eq1.false) in

@@ -4,5 +4,5 @@ use Rattle.report_lines.proofs.lines.put_side_line.Goals as goal
 
 pub returns : goal.returns
 returns c =
-    then (omega arith) c.put-text-points.ensures
-    (then (omega (arith, c.put-text-points.ensures.place)) c.put-side-end.ensures.lays c.put-text.ensures)
+    then (omega arith) c.put_text-points.ensures
+    (then (omega (arith, c.put_text-points.ensures.place)) c.put_side-end.ensures.lays c.put_text.ensures)

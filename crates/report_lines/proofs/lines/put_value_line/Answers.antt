@@ -6,6 +6,6 @@ use Rattle.report_lines.proofs.lines.put_value_line.Goals as goal
 
 pub returns : goal.returns
 returns c =
-    let spelled = lays_as (ap signed_decimal (to_z-of_z w64 c.args.value c.ranges.value)) c.put-signed-end.ensures.lays in
-    then (omega arith) c.put-text-number.ensures
-    (then (omega (arith, c.put-text-number.ensures.place)) spelled c.put-text.ensures)
+    let spelled = lays_as (ap signed_decimal (to_z-of_z w64 c.args.value c.ranges.value)) c.put_signed-end.ensures.lays in
+    then (omega arith) c.put_text-number.ensures
+    (then (omega (arith, c.put_text-number.ensures.place)) spelled c.put_text.ensures)

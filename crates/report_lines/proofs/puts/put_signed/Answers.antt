@@ -9,9 +9,9 @@ pub returns : goal.returns
 returns c =
     let n = c.args.n in
     let bits = to_z-of_z w64 n c.ranges.n in
-    let size = c.unsigned-abs-2.ensures.value ∙ ap nat_abs bits in
+    let size = c.unsigned_abs-2.ensures.value ∙ ap nat_abs bits in
     let spelled = ap (λ m. codes "-" ++ decimal m) size ∙ sym (signed_below n (ap (le_z (pos 0)) (sym bits) ∙ c.if-n-ge0.false)) in
     record {
-      lays = lays_as spelled (then (omega arith) c.put-text-behind.ensures c.put-number-2.ensures.lays);
-      short = omega (arith, c.put-text-behind.ensures.place, c.put-number-2.ensures.short);
+      lays = lays_as spelled (then (omega arith) c.put_text-behind.ensures c.put_number-2.ensures.lays);
+      short = omega (arith, c.put_text-behind.ensures.place, c.put_number-2.ensures.short);
     }

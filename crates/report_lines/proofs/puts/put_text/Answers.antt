@@ -10,7 +10,7 @@ returns c =
     let count : at + length text - at ≡ length text = omega arith in
     record {
       table =
-          ap (λ t. take at old ++ (t ++ drop (at + length text - at) (drop at old))) c.copy-from-slice.ensures.after
+          ap (λ t. take at old ++ (t ++ drop (at + length text - at) (drop at old))) c.copy_from_slice.ensures.after
           ∙ ap (λ k. take at old ++ (text ++ drop k (drop at old))) count
           ∙ ap (λ rest. take at old ++ (text ++ rest)) (drop-drop (length text) at old);
       place = refl;

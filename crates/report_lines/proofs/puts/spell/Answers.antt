@@ -15,8 +15,8 @@ loop-rest-init c =
       ap (λ t. decimal n ++ t) (drop_all 20 c.args.digits.now (omega arith)) ∙ append-nil (decimal n),
     )
 
-pub overflow-sub-first-in-loop-rest : goal.overflow-sub-first-in-loop-rest
-overflow-sub-first-in-loop-rest c = omega (arith, digit_some c.loop-rest.rest (omega arith) (omega arith))
+pub overflow_sub-first-in-loop-rest : goal.overflow_sub-first-in-loop-rest
+overflow_sub-first-in-loop-rest c = omega (arith, digit_some c.loop-rest.rest (omega arith) (omega arith))
 
 pub loop-rest-preserved : goal.loop-rest-preserved
 loop-rest-preserved c =

@@ -11,26 +11,26 @@ pub returns-in-Some : goal.returns-in-Some
 returns-in-Some g c =
     let s = g.R.Register.scheme c.args.register.now in
     let reach = c.in-Some.reach in
-    let form = sym c.in-ok-ask-form.ensures.answer in
+    let form = sym c.in_ok-ask_form.ensures.answer in
     let over : ask_flows s ≡ Some (refused Book 8 reach) = ap (option_map (refused Book 8)) (sym c.in-Some.ensures) in
     let told : Some (refused Book 8 reach) ≡ first_no (book_questions s) = passes_all (form_questions s) (flow_questions s) form (refuses (ask_flows s) _ over) in
     record { answer = told; law = accepted_means {X = Unit {0}} book_refusal (Err (Over reach)) _ told (book_means s) }
 
-pub returns-in-Some-first-unbalanced : goal.returns-in-Some-first-unbalanced
-returns-in-Some-first-unbalanced g c =
+pub returns-in-Some-first_unbalanced : goal.returns-in-Some-first_unbalanced
+returns-in-Some-first_unbalanced g c =
     let s = g.R.Register.scheme c.args.register.now in
-    let point = c.in-Some-first-unbalanced.point in
-    let form = sym c.in-ok-ask-form.ensures.answer in
-    let over : ask_flows s ≡ None = ap (option_map (refused Book 8)) (sym c.in-default.ensures) in
-    let balance : ask_balance s ≡ Some (refused Book 9 point) = ap (option_map (refused Book 9)) (sym c.in-Some-first-unbalanced.ensures) in
+    let point = c.in-Some-first_unbalanced.point in
+    let form = sym c.in_ok-ask_form.ensures.answer in
+    let over : ask_flows s ≡ None = ap (option_map (refused Book 8)) (sym c.in_default.ensures) in
+    let balance : ask_balance s ≡ Some (refused Book 9 point) = ap (option_map (refused Book 9)) (sym c.in-Some-first_unbalanced.ensures) in
     let told : Some (refused Book 9 point) ≡ first_no (book_questions s) = passes_all (form_questions s) (flow_questions s) form (passes (ask_flows s) _ over (refuses (ask_balance s) _ balance)) in
     record { answer = told; law = accepted_means {X = Unit {0}} book_refusal (Err (Unbalanced point)) _ told (book_means s) }
 
 pub returns : goal.returns
 returns g c =
     let s = g.R.Register.scheme c.args.register.now in
-    let form = sym c.in-ok-ask-form.ensures.answer in
-    let over : ask_flows s ≡ None = ap (option_map (refused Book 8)) (sym c.in-default.ensures) in
-    let balance : ask_balance s ≡ None = ap (option_map (refused Book 9)) (sym c.in-default-first-unbalanced.ensures) in
+    let form = sym c.in_ok-ask_form.ensures.answer in
+    let over : ask_flows s ≡ None = ap (option_map (refused Book 8)) (sym c.in_default.ensures) in
+    let balance : ask_balance s ≡ None = ap (option_map (refused Book 9)) (sym c.in_default-first_unbalanced.ensures) in
     let told : ◌≡◌ {A = Question} None (first_no (book_questions s)) = passes_all (form_questions s) (flow_questions s) form (passes (ask_flows s) _ over (passes (ask_balance s) _ balance refl)) in
     record { answer = told; law = accepted_means {X = Unit {0}} book_refusal (Ok tt) _ told (book_means s) }

@@ -10,30 +10,30 @@ use Rattle.scheme.proofs.Reviews.{check_best}
 use Rattle.scheme.proofs.Sides.{check_law}
 use Rattle.scheme.proofs.review.check.Goals as goal
 
-pub returns-in-err-ask-book : goal.returns-in-err-ask-book
-returns-in-err-ask-book g c =
+pub returns-in_err-ask_book : goal.returns-in_err-ask_book
+returns-in_err-ask_book g c =
     let s = g.R.Register.scheme c.args.register.now in
     let marks = c.args.marks.now in
-    let p = err_from_is_err_and c.from-residual.result c.from-residual.ensures.1 in
-    let told = ap (refusal_of call_refusal) (p.1 ∙ ap Err p.2) ∙ refuses_all (book_questions s) (side_questions s marks) (sym c.in-err-ask-book.ensures.answer) in
-    record { answer = told; law = check_law s marks c.from-residual.result told; greatest = check_best s marks c.from-residual.result told }
+    let p = err_from_is_err_and c.from_residual.result c.from_residual.ensures.1 in
+    let told = ap (refusal_of call_refusal) (p.1 ∙ ap Err p.2) ∙ refuses_all (book_questions s) (side_questions s marks) (sym c.in_err-ask_book.ensures.answer) in
+    record { answer = told; law = check_law s marks c.from_residual.result told; greatest = check_best s marks c.from_residual.result told }
 
-pub returns-then-not-is-side : goal.returns-then-not-is-side
-returns-then-not-is-side g c =
+pub returns-then-not-is_side : goal.returns-then-not-is_side
+returns-then-not-is_side g c =
     let s = g.R.Register.scheme c.args.register.now in
     let marks = c.args.marks.now in
-    let book = sym c.in-ok-ask-book.ensures.answer in
-    let side : ask_side s marks ≡ Some (refused Call 15 0) = ap (λ t. cond t None (Some (refused Call 15 0))) (sym c.if-not-is-side.ensures) in
+    let book = sym c.in_ok-ask_book.ensures.answer in
+    let side : ask_side s marks ≡ Some (refused Call 15 0) = ap (λ t. cond t None (Some (refused Call 15 0))) (sym c.if-not-is_side.ensures) in
     let told : Some (refused Call 15 0) ≡ first_no (check_questions s marks) = passes_all (book_questions s) (side_questions s marks) book (refuses (ask_side s marks) _ side) in
     record { answer = told; law = check_law s marks (Err NoSide) told; greatest = check_best s marks (Err NoSide) told }
 
-pub returns-then-not-is-tight : goal.returns-then-not-is-tight
-returns-then-not-is-tight g c =
+pub returns-then-not-is_tight : goal.returns-then-not-is_tight
+returns-then-not-is_tight g c =
     let s = g.R.Register.scheme c.args.register.now in
     let marks = c.args.marks.now in
-    let book = sym c.in-ok-ask-book.ensures.answer in
-    let side : ask_side s marks ≡ None = ap (λ t. cond t None (Some (refused Call 15 0))) (sym c.if-not-is-side.ensures) in
-    let tight : ask_capacity s marks ≡ Some (refused Call 16 0) = ap (λ t. cond t None (Some (refused Call 16 0))) (sym c.if-not-is-tight.ensures) in
+    let book = sym c.in_ok-ask_book.ensures.answer in
+    let side : ask_side s marks ≡ None = ap (λ t. cond t None (Some (refused Call 15 0))) (sym c.if-not-is_side.ensures) in
+    let tight : ask_capacity s marks ≡ Some (refused Call 16 0) = ap (λ t. cond t None (Some (refused Call 16 0))) (sym c.if-not-is_tight.ensures) in
     let told : Some (refused Call 16 0) ≡ first_no (check_questions s marks) = passes_all (book_questions s) (side_questions s marks) book (passes (ask_side s marks) _ side (refuses (ask_capacity s marks) _ tight)) in
     record { answer = told; law = check_law s marks (Err NotTight) told; greatest = check_best s marks (Err NotTight) told }
 
@@ -41,8 +41,8 @@ pub returns : goal.returns
 returns g c =
     let s = g.R.Register.scheme c.args.register.now in
     let marks = c.args.marks.now in
-    let book = sym c.in-ok-ask-book.ensures.answer in
-    let side : ask_side s marks ≡ None = ap (λ t. cond t None (Some (refused Call 15 0))) (sym c.if-not-is-side.ensures) in
-    let tight : ask_capacity s marks ≡ None = ap (λ t. cond t None (Some (refused Call 16 0))) (sym c.if-not-is-tight.ensures) in
+    let book = sym c.in_ok-ask_book.ensures.answer in
+    let side : ask_side s marks ≡ None = ap (λ t. cond t None (Some (refused Call 15 0))) (sym c.if-not-is_side.ensures) in
+    let tight : ask_capacity s marks ≡ None = ap (λ t. cond t None (Some (refused Call 16 0))) (sym c.if-not-is_tight.ensures) in
     let told : ◌≡◌ {A = Question} None (first_no (check_questions s marks)) = passes_all (book_questions s) (side_questions s marks) book (passes (ask_side s marks) _ side (passes (ask_capacity s marks) _ tight refl)) in
     record { answer = told; law = check_law s marks (Ok tt) told; greatest = check_best s marks (Ok tt) told }

@@ -6,7 +6,7 @@ pub returns : goal.returns
 returns c =
     ap (λ m. eqb m 1)
     (
-    c.unwrap-or.ensures
+    c.unwrap_or.ensures
     ∙ ap (λ o. unwrap_or o 0) (c.copied.ensures ∙ nth_from_item _ _ c.get.result c.get.ensures.lookup)
     ∙ get_or_from_nth c.args.marks.now c.from.result 0
     ∙ ap (λ v. get_or c.args.marks.now v 0) c.from.ensures

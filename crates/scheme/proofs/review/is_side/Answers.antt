@@ -4,14 +4,14 @@ use Rattle.scheme.specs.Marks.{sided}
 use Rattle.scheme.proofs.Sides.{answers_yes, answers_no, sided_decides, side_fits, fits_side}
 use Rattle.scheme.proofs.review.is_side.Goals as goal
 
-pub returns-then-not-mark-fits : goal.returns-then-not-mark-fits
-returns-then-not-mark-fits g c =
+pub returns-then-not-mark_fits : goal.returns-then-not-mark_fits
+returns-then-not-mark_fits g c =
     let s = g.R.Register.scheme c.args.register.now in
     let marks = c.args.marks.now in
-    answers_no (sided s marks) (sided_decides s marks) (λ side. both_ways _ (let e = c.if-not-mark-fits.ensures in cc) (side_fits s marks side c.loop-point.point (omega arith)))
+    answers_no (sided s marks) (sided_decides s marks) (λ side. both_ways _ (let e = c.if-not-mark_fits.ensures in cc) (side_fits s marks side c.loop-point.point (omega arith)))
 
 pub returns : goal.returns
 returns g c =
     let s = g.R.Register.scheme c.args.register.now in
     let marks = c.args.marks.now in
-    answers_yes (sided s marks) (sided_decides s marks) (fits_side s marks (omega arith) c.requires.0 c.requires.1 (λ v within. c.loop-point.invariant v (omega arith)))
+    answers_yes (sided s marks) (sided_decides s marks) (fits_side s marks (omega arith) c.requires.register_bound c.requires.register_bound_2 (λ v within. c.loop-point.invariant v (omega arith)))

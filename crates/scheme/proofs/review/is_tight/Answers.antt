@@ -13,13 +13,13 @@ loop-reach-preserved g c =
     let k = c.loop-reach.reach in
     let v = c.inlet-inlet.result in
     let within : k < length rs = omega (arith, c.reaches-count.ensures) in
-    let tail = field_read (λ r. r.tail) rs k c.tail.result _ c.unwrap-or-tail.ensures c.tail.ensures in
-    let head = field_read (λ r. r.head) rs k c.head.result _ c.unwrap-or-head.ensures c.head.ensures in
-    let limit = field_read (λ r. r.limit) rs k c.limit.result _ c.unwrap-or-limit.ensures c.limit.ensures in
-    let flow = field_read (λ r. r.flow) rs k c.flow.result _ c.unwrap-or-flow.ensures c.flow.ensures in (
-      sum_step (λ r. cond (eqb r.tail v) r.flow 0) rs k _ _ _ within c.loop-reach.invariant.0 c.add-if-outflow.ensures.value (cc),
-      sum_step (λ r. cond (eqb r.head v) r.flow 0) rs k _ _ _ within c.loop-reach.invariant.1 c.add-if-inflow.ensures.value (cc),
-      sum_step (λ r. cond (leaves (marked c.args.marks.now) r) r.limit 0) rs k _ _ _ within c.loop-reach.invariant.2 c.add-if-capacity.ensures.value (cc),
+    let tail = field_read (λ r. r.tail) rs k c.tail.result _ c.unwrap_or-tail.ensures c.tail.ensures in
+    let head = field_read (λ r. r.head) rs k c.head.result _ c.unwrap_or-head.ensures c.head.ensures in
+    let limit = field_read (λ r. r.limit) rs k c.limit.result _ c.unwrap_or-limit.ensures c.limit.ensures in
+    let flow = field_read (λ r. r.flow) rs k c.flow.result _ c.unwrap_or-flow.ensures c.flow.ensures in (
+      sum_step (λ r. cond (eqb r.tail v) r.flow 0) rs k _ _ _ within c.loop-reach.invariant.0 c.add_if-outflow.ensures.value (cc),
+      sum_step (λ r. cond (eqb r.head v) r.flow 0) rs k _ _ _ within c.loop-reach.invariant.1 c.add_if-inflow.ensures.value (cc),
+      sum_step (λ r. cond (leaves (marked c.args.marks.now) r) r.limit 0) rs k _ _ _ within c.loop-reach.invariant.2 c.add_if-capacity.ensures.value (cc),
       omega arith,
       omega arith,
       omega arith,

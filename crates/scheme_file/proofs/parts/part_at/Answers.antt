@@ -8,21 +8,21 @@ pub returns-in-1 : goal.returns-in-1
 returns-in-1 c =
     let bs = c.args.bytes.now in
     let at = c.args.at in
-    let bytes : Bytes bs = λ i. (c.type-inv.bytes i).fits in
-    let inside : end_at bs at ≤ length bs = omega (arith, c.get-u32-size.ensures) in
-    let kind : kind_at bs at ≡ 1 = sym c.get-u16.ensures ∙ c.in-1.is in
+    let bytes : Bytes bs = λ i. (c.type_inv.bytes i).fits in
+    let inside : end_at bs at ≤ length bs = omega (arith, c.get_u32-size.ensures) in
+    let kind : kind_at bs at ≡ 1 = sym c.get_u16.ensures ∙ c.in-1.is in
     record {
       fault = search rules;
       found = (omega arith, part_at bs at bytes inside (λ e. omega (arith, kind)) _ refl (sym kind) (search rules) (search rules));
     }
 
-pub returns-else-size-gt-MOST-ROWS : goal.returns-else-size-gt-MOST-ROWS
-returns-else-size-gt-MOST-ROWS c =
+pub returns-else-size-gt-MOST_ROWS : goal.returns-else-size-gt-MOST_ROWS
+returns-else-size-gt-MOST_ROWS c =
     let bs = c.args.bytes.now in
     let at = c.args.at in
-    let bytes : Bytes bs = λ i. (c.type-inv.bytes i).fits in
-    let inside : end_at bs at ≤ length bs = omega (arith, c.get-u32-size.ensures) in
-    let kind : kind_at bs at ≡ 2 = sym c.get-u16.ensures ∙ c.in-2.is in
+    let bytes : Bytes bs = λ i. (c.type_inv.bytes i).fits in
+    let inside : end_at bs at ≤ length bs = omega (arith, c.get_u32-size.ensures) in
+    let kind : kind_at bs at ≡ 2 = sym c.get_u16.ensures ∙ c.in-2.is in
     let whole : length_at bs at % 12 ≡ 0 = search rules in
     record {
       fault = search rules;
@@ -33,9 +33,9 @@ pub returns-in-3 : goal.returns-in-3
 returns-in-3 c =
     let bs = c.args.bytes.now in
     let at = c.args.at in
-    let bytes : Bytes bs = λ i. (c.type-inv.bytes i).fits in
-    let inside : end_at bs at ≤ length bs = omega (arith, c.get-u32-size.ensures) in
-    let kind : kind_at bs at ≡ 3 = sym c.get-u16.ensures ∙ c.in-3.is in
+    let bytes : Bytes bs = λ i. (c.type_inv.bytes i).fits in
+    let inside : end_at bs at ≤ length bs = omega (arith, c.get_u32-size.ensures) in
+    let kind : kind_at bs at ≡ 3 = sym c.get_u16.ensures ∙ c.in-3.is in
     record {
       fault = search rules;
       found = (omega arith, part_at bs at bytes inside (λ e. omega (arith, kind)) _ refl (sym kind) (search rules) (search rules));

@@ -11,23 +11,23 @@ use Rattle.scheme_file.proofs.reading.row_block.Goals.{in-Rows, in-default-part}
 pub loop-part-init : goal.loop-part-init
 loop-part-init c = walking_none c.args.bytes.now
 
-pub returns-in-err-part : goal.returns-in-err-part
-returns-in-err-part c =
+pub returns-in_err-part : goal.returns-in_err-part
+returns-in_err-part c =
     let bs = c.args.bytes.now in
     let at = c.loop-part.at in
-    let fault = c.in-err-part.ensures.fault in
+    let fault = c.in_err-part.ensures.fault in
     let within = asked_within bs at _ _ fault in
-    let asked = asked_of bs at c.loop-part.rows c.is-some.result _ within c.is-some.ensures fault in
-    let p = err_from_is_err_and c.from-residual.result c.from-residual.ensures.1 in
+    let asked = asked_of bs at c.loop-part.rows c.is_some.result _ within c.is_some.ensures fault in
+    let p = err_from_is_err_and c.from_residual.result c.from_residual.ensures.1 in
     rw (p.1, p.2)
-    (record { answer = sym (walking_refused bs at _ c.loop-part.invariant (omega arith) _ within asked); lies = tt; bytes = λ i. (c.type-inv.bytes i).fits })
+    (record { answer = sym (walking_refused bs at _ c.loop-part.invariant (omega arith) _ within asked); lies = tt; bytes = λ i. (c.type_inv.bytes i).fits })
 
 pub loop-part-preserved : goal.loop-part-preserved
 loop-part-preserved c =
     let bs = c.args.bytes.now in
     let at = c.loop-part.at in
-    let here = MatchOption-at_some _ _ c.in-Some.part c.in-Some.is c.in-ok-part.ensures.found in
-    let asked = asked_of bs at c.loop-part.rows c.is-some.result None here.0 c.is-some.ensures c.in-ok-part.ensures.fault in
+    let here = MatchOption-at_some _ _ c.in-Some.part c.in-Some.is c.in_ok-part.ensures.found in
+    let asked = asked_of bs at c.loop-part.rows c.is_some.result None here.0 c.is_some.ensures c.in_ok-part.ensures.fault in
     let t = taken bs at (is_some c.loop-part.rows) asked in
     let ends : c.end-at.result ≡ end_at bs at = c.end-at.ensures ∙ part_end bs at c.in-Some.part here.1 (omega (arith, t.inside)) in
     let rows : c.match-part.rows ≡ rows_from bs at c.loop-part.rows =
@@ -40,20 +40,20 @@ loop-part-preserved c =
 pub returns-in-Some-rows : goal.returns-in-Some-rows
 returns-in-Some-rows c =
     let bs = c.args.bytes.now in
-    let past = MatchOption-at_none _ _ c.in-default.is c.in-ok-part.ensures.found in
+    let past = MatchOption-at_none _ _ c.in_default.is c.in_ok-part.ensures.found in
     record {
       answer = sym (walking_all bs _ _ c.loop-part.invariant (omega arith) past ∙ ap (ending c.loop-part.at) c.in-Some-rows.is);
       lies = MatchOption-at_some _ _ _ c.in-Some-rows.is c.loop-part.invariant.lie;
-      bytes = λ i. (c.type-inv.bytes i).fits;
+      bytes = λ i. (c.type_inv.bytes i).fits;
     }
 
 pub returns-in-None-2 : goal.returns-in-None-2
 returns-in-None-2 c =
     let bs = c.args.bytes.now in
     let at = c.loop-part.at in
-    let past = MatchOption-at_none _ _ c.in-default.is c.in-ok-part.ensures.found in
+    let past = MatchOption-at_none _ _ c.in_default.is c.in_ok-part.ensures.found in
     record {
       answer = sym (walking_all bs _ _ c.loop-part.invariant (omega arith) past ∙ ap (ending at) c.in-None-2.is ∙ ending_later at c.if-at-eq0.false);
       lies = tt;
-      bytes = λ i. (c.type-inv.bytes i).fits;
+      bytes = λ i. (c.type_inv.bytes i).fits;
     }

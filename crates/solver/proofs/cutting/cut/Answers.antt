@@ -22,8 +22,8 @@ module _ (g : given.Over) (c : In-ok-ask-ordering g) where
   asked =
       let s = g.R.Register.scheme c.args.register.now in
       let ks = g.P.Pick.held c.args.pick.now in
-      subst (λ hold. AllYes (ordering_questions s hold ks)) c.all-hold-hold.ensures
-      (sym c.in-ok-ask-ordering.ensures.answer)
+      subst (λ hold. AllYes (ordering_questions s hold ks)) c.all_hold-hold.ensures
+      (sym c.in_ok-ask_ordering.ensures.answer)
 
   able :
       Ready (g.R.Register.scheme c.args.register.now)
@@ -36,30 +36,30 @@ module _ (g : given.Over) (c : After-clear-needs g) where
   ordered :
       CutOrders (g.R.Register.scheme c.args.register.now)
       (work_of c.args.order.now c.args.place.now c.args.need.now) c.args.marks.now
-      (g.P.Pick.held c.args.pick.now) c.make-ordering-told.ensures.made.order
-      c.make-ordering-told.result.gain
-      (work_of c.make-ordering-told.new.order c.make-ordering-told.new.place c.clear-needs.new.need)
-      (g.P.Pick.held c.make-ordering-told.new.pick)
+      (g.P.Pick.held c.args.pick.now) c.make_ordering-told.ensures.made.order
+      c.make_ordering-told.result.gain
+      (work_of c.make_ordering-told.new.order c.make_ordering-told.new.place c.clear_needs.new.need)
+      (g.P.Pick.held c.make_ordering-told.new.pick)
   ordered =
-      cut_orders c.make-ordering-told.ensures.made _ c.points-points.ensures c.args.need.now _
+      cut_orders c.make_ordering-told.ensures.made _ c.points-points.ensures c.args.need.now _
       c.args.marks.now (g.P.Pick.held c.args.pick.now) _
-      (asked g (goal.at.After-clear-needs g c).In-ok-ask-ordering) c.clear-needs.ensures
-      (c.make-ordering-told.ensures.size ∙ c.ask-ordering.ensures.size)
+      (asked g (goal.at.After-clear-needs g c).In-ok-ask-ordering) c.clear_needs.ensures
+      (c.make_ordering-told.ensures.size ∙ c.ask_ordering.ensures.size)
 
 -- ---- the answers
 
-pub returns-in-err-ask-ordering : goal.returns-in-err-ask-ordering
-returns-in-err-ask-ordering g c =
+pub returns-in_err-ask_ordering : goal.returns-in_err-ask_ordering
+returns-in_err-ask_ordering g c =
     let s = g.R.Register.scheme c.args.register.now in
     let ks = g.P.Pick.held c.args.pick.now in
     let w = work_of c.args.order.now c.args.place.now c.args.need.now in
     let marks = c.args.marks.now in
-    let p = err_from_is_err_and c.from-residual.result c.from-residual.ensures.1 in
-    let fault = c.in-err-ask-ordering.field-0.0 in
+    let p = err_from_is_err_and c.from_residual.result c.from_residual.ensures.1 in
+    let fault = c.in_err-ask_ordering.field-0.0 in
     let tells : FirstNo (cut_questions s w marks ks) fault =
-    subst (λ hold. FirstNo (ordering_questions s hold ks) fault) c.all-hold-hold.ensures
-    (sym c.in-err-ask-ordering.ensures.answer) in
-    let does = refused_first s w ks marks fault _ tells c.in-err-ask-ordering.ensures.pick in
+    subst (λ hold. FirstNo (ordering_questions s hold ks) fault) c.all_hold-hold.ensures
+    (sym c.in_err-ask_ordering.ensures.answer) in
+    let does = refused_first s w ks marks fault _ tells c.in_err-ask_ordering.ensures.pick in
     rw (p.1, p.2)
     (record {
       does = does;
@@ -67,9 +67,9 @@ returns-in-err-ask-ordering g c =
       gap = λ e. cut_refused s w ks marks fault w _ marks does (let same : fault ≡ Gains = cc in same);
     })
 
-pub make-ordering-told-requires : goal.make-ordering-told-requires
-make-ordering-told-requires g c =
-    let r = able g (goal.at.make-ordering-told-requires g c).In-ok-ask-ordering in
+pub make_ordering-told-requires : goal.make_ordering-told-requires
+make_ordering-told-requires g c =
+    let r = able g (goal.at.make_ordering-told-requires g c).In-ok-ask-ordering in
     let points = (g.R.Register.scheme c.args.register.now).points in
     record {
       formed = r.formed;
@@ -77,22 +77,22 @@ make-ordering-told-requires g c =
       listed = r.tables.1.0;
       placed = r.tables.1.1.0;
       begun =
-          c.in-ok-ask-ordering.ensures.pick
-          ∙ ap (λ n. started n points) (sym c.ask-ordering.ensures.size);
-      room = omega (arith, r.room, c.ask-ordering.ensures.size);
+          c.in_ok-ask_ordering.ensures.pick
+          ∙ ap (λ n. started n points) (sym c.ask_ordering.ensures.size);
+      room = omega (arith, r.room, c.ask_ordering.ensures.size);
     }
 
-pub clear-needs-requires : goal.clear-needs-requires
-clear-needs-requires g c =
-    let r = able g (goal.at.clear-needs-requires g c).In-ok-ask-ordering in
+pub clear_needs-requires : goal.clear_needs-requires
+clear_needs-requires g c =
+    let r = able g (goal.at.clear_needs-requires g c).In-ok-ask-ordering in
     omega (arith, r.tables.1.1.1.0, c.points-points.ensures)
 
-pub mark-placed-requires : goal.mark-placed-requires
-mark-placed-requires g c =
-    let r = able g (goal.at.mark-placed-requires g c).In-ok-ask-ordering in
+pub mark_placed-requires : goal.mark_placed-requires
+mark_placed-requires g c =
+    let r = able g (goal.at.mark_placed-requires g c).In-ok-ask-ordering in
     record {
       room = omega (arith, r.tables.0, c.points-points.ensures);
-      placed = omega (arith, r.tables.1.1.0, c.points-points.ensures, c.make-ordering-told.auto.place);
+      placed = omega (arith, r.tables.1.1.0, c.points-points.ensures, c.make_ordering-told.auto.place);
     }
 
 pub returns-then-told-gt0 : goal.returns-then-told-gt0
@@ -112,17 +112,17 @@ returns g c =
     let ks = g.P.Pick.held c.args.pick.now in
     let w = work_of c.args.order.now c.args.place.now c.args.need.now in
     let marks = c.args.marks.now in
-    let after = c.mark-placed.new.marks in
+    let after = c.mark_placed.new.marks in
     let at = goal.at.returns g c in
     let formed = (able g at.In-ok-ask-ordering).formed in
-    let m = c.make-ordering-told.ensures.made in
-    let are = marks_written m _ c.points-points.ensures marks after formed c.mark-placed.ensures in
-    let does : CutMade s w ks marks c.unwrap-or.result _ _ after =
+    let m = c.make_ordering-told.ensures.made in
+    let are = marks_written m _ c.points-points.ensures marks after formed c.mark_placed.ensures in
+    let does : CutMade s w ks marks c.unwrap_or.result _ _ after =
     record {
       order = m.order;
       ordered = ordered_none (ordered g at.After-clear-needs) c.if-told-gt0.false;
       marks_are = are;
       capacity_is =
-          c.unwrap-or.ensures ∙ capacity_is s m.order marks after _ formed are c.capacity-unasked.ensures;
+          c.unwrap_or.ensures ∙ capacity_is s m.order marks after _ formed are c.capacity_unasked.ensures;
     } in
     record { does = does; law = cut_least does; gap = λ e. absurd (let no : ◌≡◌ {A = ℕ} 0 1 = cc in omega arith) }

@@ -22,29 +22,29 @@ module _ (s : Scheme) (k x : ℕ) where
   limit_allowed : x ≤ greatestLimit → limit_asked x ≡ None
   limit_allowed small = ap (λ t. cond t None (Some (refusalAt Call 12 0))) (le-leb x greatestLimit small)
 
-pub returns-in-err-ask-book : goal.returns-in-err-ask-book
-returns-in-err-ask-book g c =
+pub returns-in_err-ask_book : goal.returns-in_err-ask_book
+returns-in_err-ask_book g c =
     let s = g.R.Register.scheme c.args.register.now in
-    let p = err_from_is_err_and c.from-residual.result c.from-residual.ensures.1 in
+    let p = err_from_is_err_and c.from_residual.result c.from_residual.ensures.1 in
     rw (p.1, p.2)
-    (record { answer = refuses_all (book_questions s) (later s c.args.reach c.args.limit) (sym c.in-err-ask-book.ensures.answer); old = tt })
+    (record { answer = refuses_all (book_questions s) (later s c.args.reach c.args.limit) (sym c.in_err-ask_book.ensures.answer); old = tt })
 
 pub returns-then-reach-reaches : goal.returns-then-reach-reaches
 returns-then-reach-reaches g c =
     let s = g.R.Register.scheme c.args.register.now in
     let k = c.args.reach in
     let x = c.args.limit in
-    let book = sym c.in-ok-ask-book.ensures.answer in
+    let book = sym c.in_ok-ask_book.ensures.answer in
     let past : length s.reaches ≤ k = omega (arith, c.reaches.ensures) in
     let reach : ask_reach s k ≡ Some (refusalAt Call 11 0) = ap (λ t. cond t None (Some (refusalAt Call 11 0))) (le-ltb k (length s.reaches) past) in
     record { answer = passes_all (book_questions s) (later s k x) book (refuses (ask_reach s k) _ reach); old = tt }
 
-pub returns-then-limit-gt-GREATEST-LIMIT : goal.returns-then-limit-gt-GREATEST-LIMIT
-returns-then-limit-gt-GREATEST-LIMIT g c =
+pub returns-then-limit-gt-GREATEST_LIMIT : goal.returns-then-limit-gt-GREATEST_LIMIT
+returns-then-limit-gt-GREATEST_LIMIT g c =
     let s = g.R.Register.scheme c.args.register.now in
     let k = c.args.reach in
     let x = c.args.limit in
-    let book = sym c.in-ok-ask-book.ensures.answer in
+    let book = sym c.in_ok-ask_book.ensures.answer in
     let reach = reach_there s k x (omega (arith, c.reaches.ensures)) in
     let great : limit_asked x ≡ Some (refusalAt Call 12 0) = ap (λ t. cond t None (Some (refusalAt Call 12 0))) (lt-leb x greatestLimit (omega arith)) in
     record { answer = passes_all (book_questions s) (later s k x) book (passes (ask_reach s k) _ reach (refuses (limit_asked x) _ great)); old = tt }
@@ -54,10 +54,10 @@ returns-then-limit-flow g c =
     let s = g.R.Register.scheme c.args.register.now in
     let k = c.args.reach in
     let x = c.args.limit in
-    let book = sym c.in-ok-ask-book.ensures.answer in
+    let book = sym c.in_ok-ask_book.ensures.answer in
     let reach = reach_there s k x (omega (arith, c.reaches.ensures)) in
     let small = limit_allowed s k x (omega arith) in
-    let flow = field_read (λ r. r.flow) s.reaches k c.flow.result _ c.unwrap-or-flow.ensures c.flow.ensures in
+    let flow = field_read (λ r. r.flow) s.reaches k c.flow.result _ c.unwrap_or-flow.ensures c.flow.ensures in
     let under : ask_flow s k x ≡ Some (refusalAt Call 13 0) = ap (λ t. cond t None (Some (refusalAt Call 13 0))) (lt-leb (get_or s.reaches k no_reach).flow x (omega (arith, flow))) in
     record { answer = passes_all (book_questions s) (later s k x) book (passes (ask_reach s k) _ reach (passes (limit_asked x) _ small (refuses (ask_flow s k x) _ under))); old = tt }
 
@@ -66,12 +66,12 @@ returns g c =
     let s = g.R.Register.scheme c.args.register.now in
     let k = c.args.reach in
     let x = c.args.limit in
-    let book = sym c.in-ok-ask-book.ensures.answer in
+    let book = sym c.in_ok-ask_book.ensures.answer in
     let reach = reach_there s k x (omega (arith, c.reaches.ensures)) in
     let small = limit_allowed s k x (omega arith) in
-    let flow = field_read (λ r. r.flow) s.reaches k c.flow.result _ c.unwrap-or-flow.ensures c.flow.ensures in
+    let flow = field_read (λ r. r.flow) s.reaches k c.flow.result _ c.unwrap_or-flow.ensures c.flow.ensures in
     let over : ask_flow s k x ≡ None = ap (λ t. cond t None (Some (refusalAt Call 13 0))) (le-leb (get_or s.reaches k no_reach).flow x (omega (arith, flow))) in
     record {
       answer = passes_all (book_questions s) (later s k x) book (passes (ask_reach s k) _ reach (passes (limit_asked x) _ small (passes (ask_flow s k x) _ over refl)));
-      old = field_read (λ r. r.limit) s.reaches k c.limit.result _ c.unwrap-or.ensures c.limit.ensures;
+      old = field_read (λ r. r.limit) s.reaches k c.limit.result _ c.unwrap_or.ensures c.limit.ensures;
     }

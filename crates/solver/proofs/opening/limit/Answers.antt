@@ -8,11 +8,11 @@ use Rattle.solver.proofs.Yes.{yes_first, yes_back, yes_test}
 use Rattle.solver.proofs.opening.limit.Goals as goal
 
 -- the reach is in the list, so its limit can be written
-pub returns-in-err-set-limit : goal.returns-in-err-set-limit
-returns-in-err-set-limit g c =
+pub returns-in_err-set_limit : goal.returns-in_err-set_limit
+returns-in_err-set_limit g c =
     let s = g.B.Register.scheme c.args.book.now in
     let k = c.args.reach in
     let x = c.args.limit in
-    let later = yes_back (book_questions s) (ask_reach s k ∷ limit_asked x ∷ ask_flow s k x ∷ []) (sym c.in-ok-old.ensures.answer) in
+    let later = yes_back (book_questions s) (ask_reach s k ∷ limit_asked x ∷ ask_flow s k x ∷ []) (sym c.in_ok-old.ensures.answer) in
     let there : k < length s.reaches = ltb-true k (length s.reaches) (yes_test _ _ (yes_first (ask_reach s k) _ later)) in
-    absurd (some≢none (c.in-err-set-limit.ensures.answer ∙ unlisted_within s k there))
+    absurd (some≢none (c.in_err-set_limit.ensures.answer ∙ unlisted_within s k there))

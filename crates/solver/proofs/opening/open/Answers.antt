@@ -10,13 +10,13 @@ told_as n m k l p q = cc
 pub returns : goal.returns
 returns g c =
     let s = g.B.Register.scheme c.args.book.now in
-    let after = c.clear-flows.ensures.after in
+    let after = c.clear_flows.ensures.after in
     record {
       does = (
-        sym c.in-ok-ask-form.ensures.answer,
+        sym c.in_ok-ask_form.ensures.answer,
         told_as _ _ _ _ (c.points.ensures ∙ ap (λ t. t.points) after)
             (c.reaches.ensures ∙ ap (λ t. length t.reaches) after ∙ length-map s.reaches (flowing 0)),
         after,
       );
-      kept = c.clear-flows.ensures.kept;
+      kept = c.clear_flows.ensures.kept;
     }

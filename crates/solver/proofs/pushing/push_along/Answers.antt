@@ -4,15 +4,15 @@ use Rattle.std.proofs.lemmas.List.{length-take-le}
 use Rattle.solver.specs.Work.{position}
 use Rattle.solver.proofs.pushing.push_along.Goals as goal
 
-pub slice-bounds-push-order-end : goal.slice-bounds-push-order-end
-slice-bounds-push-order-end g c =
+pub slice_bounds-push_order-end : goal.slice_bounds-push_order-end
+slice_bounds-push_order-end g c =
     let s = g.B.Register.scheme c.args.book.now in
     let all = c.from-points.ensures ∙ c.points.ensures in
     let long = length-map-range_with_len (position 0 c.args.order.now) 0 s.points in
     all ∙ sym (ap (λ n. length (take n c.args.place.now)) all ∙ ap length c.requires.placed ∙ long)
 
-pub push-order-requires : goal.push-order-requires
-push-order-requires g c =
+pub push_order-requires : goal.push_order-requires
+push_order-requires g c =
     let s = g.B.Register.scheme c.args.book.now in
     let all = c.from-points.ensures ∙ c.points.ensures in
     let room : c.from-points.result ≤ length c.args.need.now = omega (arith, c.requires.room) in
@@ -32,7 +32,7 @@ returns g c =
     let all = c.from-points.ensures ∙ c.points.ensures in
     let long = length-map-range_with_len (λ v. cond (eqb v s.inlet) c.args.gain 0) 0 s.points in
     record {
-      flows = c.push-order.ensures.flows;
-      goal = ap₂ (λ front n. front ++ drop n c.args.need.now) c.push-order.ensures.needs (all ∙ sym long);
-      kept = c.push-order.ensures.kept;
+      flows = c.push_order.ensures.flows;
+      goal = ap₂ (λ front n. front ++ drop n c.args.need.now) c.push_order.ensures.needs (all ∙ sym long);
+      kept = c.push_order.ensures.kept;
     }

@@ -5,15 +5,15 @@ use Rattle.solver.proofs.pushing.push_point.Goals as goal
 pub loop-reach-init : goal.loop-reach-init
 loop-reach-init g c = (reached_none _ _ _ _, refl)
 
-pub push-reach-requires : goal.push-reach-requires
-push-reach-requires g c =
+pub push_reach-requires : goal.push_reach-requires
+push_reach-requires g c =
     let next = sym c.in-Some.ensures in
     let is = found c.loop-reach.invariant.0 c.in-Some.reach next in
     let here = jump c.loop-reach.invariant.0 c.in-Some.reach next in
     reach_asks here is.within c.requires c.loop-reach.auto.need
 
-pub overflow-add-from : goal.overflow-add-from
-overflow-add-from g c =
+pub overflow_add-from : goal.overflow_add-from
+overflow_add-from g c =
     let is = found c.loop-reach.invariant.0 c.in-Some.reach (sym c.in-Some.ensures) in
     omega (arith, is.within, c.requires.formed.few_reaches)
 
@@ -27,11 +27,11 @@ loop-reach-preserved g c =
     let next = sym c.in-Some.ensures in
     let is = found c.loop-reach.invariant.0 c.in-Some.reach next in
     let here = jump c.loop-reach.invariant.0 c.in-Some.reach next in (
-      reached_more here is.within _ _ c.push-reach.ensures.flows c.push-reach.ensures.needs,
-      c.push-reach.ensures.kept ∙ c.loop-reach.invariant.1,
+      reached_more here is.within _ _ c.push_reach.ensures.flows c.push_reach.ensures.needs,
+      c.push_reach.ensures.kept ∙ c.loop-reach.invariant.1,
     )
 
 pub returns : goal.returns
 returns g c =
-    let end = ended c.loop-reach.invariant.0 (sym c.in-default.ensures) in
+    let end = ended c.loop-reach.invariant.0 (sym c.in_default.ensures) in
     record { flows = end.0; needs = end.1; kept = c.loop-reach.invariant.1 }

@@ -3,17 +3,17 @@ use Rattle.std.proofs.Common.{Ok, Err}
 use Rattle.solver.proofs.Lent.{lent_round}
 use Rattle.solver.proofs.replaying.call_round.Goals as goal
 
-pub returns-in-err-told : goal.returns-in-err-told
-returns-in-err-told g c =
-    let p = err_from_is_err_and c.from-residual.result c.from-residual.ensures.1 in
+pub returns-in_err-told : goal.returns-in_err-told
+returns-in_err-told g c =
+    let p = err_from_is_err_and c.from_residual.result c.from_residual.ensures.1 in
     rw (p.1, p.2)
     (record {
       does =
           lent_round g.P.Pick.held c.args.ask.now _ _ _ _ _ _ _
-          (c.as-mut-slice.ensures.value, c.round.auto.order)
-          (c.as-mut-slice-2.ensures.value, c.round.auto.place)
-          (c.as-mut-slice-3.ensures.value, c.round.auto.need) _ _
-          (Err c.in-err-told.field-0.0) c.in-err-told.ensures.does;
+          (c.as_mut_slice.ensures.value, c.round.auto.order)
+          (c.as_mut_slice-2.ensures.value, c.round.auto.place)
+          (c.as_mut_slice-3.ensures.value, c.round.auto.need) _ _
+          (Err c.in_err-told.field-0.0) c.in_err-told.ensures.does;
       kept = c.round.ensures.kept;
     })
 
@@ -22,9 +22,9 @@ returns g c =
     record {
       does =
           lent_round g.P.Pick.held c.args.ask.now _ _ _ _ _ _ _
-          (c.as-mut-slice.ensures.value, c.round.auto.order)
-          (c.as-mut-slice-2.ensures.value, c.round.auto.place)
-          (c.as-mut-slice-3.ensures.value, c.round.auto.need) _ _
-          (Ok c.in-ok-told.told) c.in-ok-told.ensures.does;
+          (c.as_mut_slice.ensures.value, c.round.auto.order)
+          (c.as_mut_slice-2.ensures.value, c.round.auto.place)
+          (c.as_mut_slice-3.ensures.value, c.round.auto.need) _ _
+          (Ok c.in_ok-told.told) c.in_ok-told.ensures.does;
       kept = c.round.ensures.kept;
     }

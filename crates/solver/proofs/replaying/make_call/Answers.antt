@@ -4,9 +4,9 @@ use Rattle.solver.proofs.replaying.make_call.Goals as goal
 
 pub returns : goal.returns
 returns g c =
-    let made = c.answer-call-answer.ensures in
+    let made = c.answer_call-answer.ensures in
     let view = view_of g.P.Pick.held in
     record {
-      does = answered_steps _ _ (view c.args.ask.now) (view c.answer-call-answer.new.ask) _ made.does;
+      does = answered_steps _ _ (view c.args.ask.now) (view c.answer_call-answer.new.ask) _ made.does;
       kept = made.kept;
     }

@@ -12,10 +12,10 @@ loop-ask-preserved g c =
     let so_far = c.loop-ask.invariant in
     let more =
     reached_more (view_of g.P.Pick.held) c.args.asks.now c.loop-ask.asks c.loop-ask.ask-index
-    _ _ _ c.ask-item.result c.make-call.new.ask c.loop-ask-test.true c.loop-ask.auto.asks
-    so_far.1 so_far.0 c.make-call.ensures.does
+    _ _ _ c.ask-item.result c.make_call.new.ask c.loop-ask-test.true c.loop-ask.auto.asks
+    so_far.1 so_far.0 c.make_call.ensures.does
     in
-    (more.0, more.1, c.make-call.ensures.kept ∙ so_far.2)
+    (more.0, more.1, c.make_call.ensures.kept ∙ so_far.2)
 
 pub returns : goal.returns
 returns g c =
@@ -23,8 +23,8 @@ returns g c =
     record {
       does =
           reached_all (view_of g.P.Pick.held) c.args.asks.now c.loop-ask.asks c.loop-ask.ask-index
-          _ _ _ c.in-ok-told.told c.loop-ask-test.false c.loop-ask.auto.asks
-          c.in-ok-told.ensures.does made.0;
+          _ _ _ c.in_ok-told.told c.loop-ask-test.false c.loop-ask.auto.asks
+          c.in_ok-told.ensures.does made.0;
       unopened = tt;
       kept = made.2 ∙ c.open.ensures.kept;
     }

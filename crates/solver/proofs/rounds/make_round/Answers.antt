@@ -3,10 +3,10 @@ use Rattle.flows.specs.Push.{push}
 use Rattle.solver.proofs.Ordered.{order_is, order_listed, places_are, order_made, tables_are}
 use Rattle.solver.proofs.rounds.make_round.Goals as goal
 
-pub push-gain-requires : goal.push-gain-requires
-push-gain-requires g c =
+pub push_gain-requires : goal.push_gain-requires
+push_gain-requires g c =
     let s = g.B.Register.scheme c.args.book.now in
-    let m = c.make-ordering-told.ensures.made in
+    let m = c.make_ordering-told.ensures.made in
     record {
       formed = c.requires.formed;
       lawful = c.requires.lawful;
@@ -19,8 +19,8 @@ push-gain-requires g c =
 pub returns : goal.returns
 returns g c =
     let s = g.B.Register.scheme c.args.book.now in
-    let m = c.make-ordering-told.ensures.made in
-    let gain = c.make-ordering-told.result.gain in
+    let m = c.make_ordering-told.ensures.made in
+    let gain = c.make_ordering-told.result.gain in
     record {
       works =
           record {
@@ -30,12 +30,12 @@ returns g c =
                 record {
                   made = m.made;
                   after =
-                      c.push-gain.ensures.flows
+                      c.push_gain.ensures.flows
                       ∙ ap (λ order. cond (eqb gain 0) s (push s order gain)) (order_is s _ _ _ _ _ _ m);
                 };
             told = m.told;
-            tables = tables_are _ _ _ _ _ _ m.order_table m.place_table c.push-gain.ensures.need;
+            tables = tables_are _ _ _ _ _ _ m.order_table m.place_table c.push_gain.ensures.need;
           };
-      size = c.make-ordering-told.ensures.size ∙ c.start.ensures.size;
-      kept = c.push-gain.ensures.kept;
+      size = c.make_ordering-told.ensures.size ∙ c.start.ensures.size;
+      kept = c.push_gain.ensures.kept;
     }

@@ -12,20 +12,20 @@ use Rattle.solver.proofs.Holding.{ready}
 use Rattle.solver.proofs.OwnLaws.{settle_keeps}
 use Rattle.solver.proofs.settling.settle.Goals as goal
 
-pub returns-in-err-ask-ordering : goal.returns-in-err-ask-ordering
-returns-in-err-ask-ordering g c =
+pub returns-in_err-ask_ordering : goal.returns-in_err-ask_ordering
+returns-in_err-ask_ordering g c =
     let s = g.B.Register.scheme c.args.book.now in
     let ks = g.P.Pick.held c.args.pick.now in
-    let p = err_from_is_err_and c.from-residual.result c.from-residual.ensures.1 in
-    let first = ap (λ hold. first_no (ordering_questions s hold ks)) (sym c.tables-hold-hold.ensures) ∙ sym c.in-err-ask-ordering.ensures.answer in
-    rw (p.1, p.2) (record { does = ([], (first, refl, refl, refl, c.in-err-ask-ordering.ensures.pick)); law = tt; kept = refl })
+    let p = err_from_is_err_and c.from_residual.result c.from_residual.ensures.1 in
+    let first = ap (λ hold. first_no (ordering_questions s hold ks)) (sym c.tables_hold-hold.ensures) ∙ sym c.in_err-ask_ordering.ensures.answer in
+    rw (p.1, p.2) (record { does = ([], (first, refl, refl, refl, c.in_err-ask_ordering.ensures.pick)); law = tt; kept = refl })
 
-pub settle-rounds-rounds-requires : goal.settle-rounds-rounds-requires
-settle-rounds-rounds-requires g c =
+pub settle_rounds-rounds-requires : goal.settle_rounds-rounds-requires
+settle_rounds-rounds-requires g c =
     let s = g.B.Register.scheme c.args.book.now in
     let ks = g.P.Pick.held c.args.pick.now in
     let lengths = length c.args.order.now ∷ length c.args.place.now ∷ length c.args.need.now ∷ [] in
-    let asked = subst (λ hold. AllYes (ordering_questions s hold ks)) c.tables-hold-hold.ensures (sym c.in-ok-ask-ordering.ensures.answer) in
+    let asked = subst (λ hold. AllYes (ordering_questions s hold ks)) c.tables_hold-hold.ensures (sym c.in_ok-ask_ordering.ensures.answer) in
     let r = ready s lengths ks asked in
     record {
       formed = r.formed;
@@ -33,7 +33,7 @@ settle-rounds-rounds-requires g c =
       listed = r.tables.0;
       placed = r.tables.1.0;
       needed = r.tables.1.1.0;
-      room = omega (arith, r.room, c.ask-ordering.ensures.size);
+      room = omega (arith, r.room, c.ask_ordering.ensures.size);
     }
 
 pub returns : goal.returns
@@ -41,22 +41,22 @@ returns g c =
     let s = g.B.Register.scheme c.args.book.now in
     let ks = g.P.Pick.held c.args.pick.now in
     let w = work_of c.args.order.now c.args.place.now c.args.need.now in
-    let asked = subst (λ hold. AllYes (ordering_questions s hold ks)) c.tables-hold-hold.ensures (sym c.in-ok-ask-ordering.ensures.answer) in
-    let works = c.settle-rounds-rounds.ensures.works in
+    let asked = subst (λ hold. AllYes (ordering_questions s hold ks)) c.tables_hold-hold.ensures (sym c.in_ok-ask_ordering.ensures.answer) in
+    let works = c.settle_rounds-rounds.ensures.works in
     let lengths = length c.args.order.now ∷ length c.args.place.now ∷ length c.args.need.now ∷ [] in
     let r = ready s lengths ks asked in
-    let t = g.B.Register.scheme c.settle-rounds-rounds.new.book in
+    let t = g.B.Register.scheme c.settle_rounds-rounds.new.book in
     let chain = chains_bounded s t works.0 r.formed r.lawful works.2.run.chain in
     let few = le-leb (length t.reaches) mostReaches chain.formed.few_reaches in
-    let there : c.value-unasked.result ≡ Some (value t) = c.value-unasked.ensures ∙ cond-true _ (Some (value t)) None few in
-    let fits : SFits w64 c.unwrap-or-value.result = search rules in
+    let there : c.value_unasked.result ≡ Some (value t) = c.value_unasked.ensures ∙ cond-true _ (Some (value t)) None few in
+    let fits : SFits w64 c.unwrap_or-value.result = search rules in
     let made : SettleMade s w ks works.0 _ _ _ _ _ =
     record {
       asked = asked;
       works = works.2;
-      valued = to_z-of_z w64 c.unwrap-or-value.result fits ∙ c.unwrap-or-value.ensures ∙ ap (λ o. unwrap_or o (pos 0)) there;
+      valued = to_z-of_z w64 c.unwrap_or-value.result fits ∙ c.unwrap_or-value.ensures ∙ ap (λ o. unwrap_or o (pos 0)) there;
       counted = works.1;
-      size_stays = c.settle-rounds-rounds.ensures.size ∙ c.ask-ordering.ensures.size;
+      size_stays = c.settle_rounds-rounds.ensures.size ∙ c.ask_ordering.ensures.size;
     }
     in
-    record { does = (works.0, made); law = settle_keeps made; kept = c.settle-rounds-rounds.ensures.kept }
+    record { does = (works.0, made); law = settle_keeps made; kept = c.settle_rounds-rounds.ensures.kept }

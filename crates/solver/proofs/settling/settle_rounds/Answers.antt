@@ -7,8 +7,8 @@ pub rounds-init : goal.rounds-init
 rounds-init g c =
     (at_start (g.B.Register.scheme c.args.book.now) (work_of c.args.order.now c.args.place.now c.args.need.now), refl, refl)
 
-pub make-round-told-requires : goal.make-round-told-requires
-make-round-told-requires g c =
+pub make_round-told-requires : goal.make_round-told-requires
+make_round-told-requires g c =
     let run = c.rounds.invariant.0 in
     let chain = so_far c.requires.formed c.requires.lawful run in
     let points = same_points c.requires.formed c.requires.lawful run in
@@ -24,23 +24,23 @@ make-round-told-requires g c =
 pub returns-then-told-eq0 : goal.returns-then-told-eq0
 returns-then-told-eq0 g c =
     let run = c.rounds.invariant.0 in
-    let works = c.make-round-told.ensures.works in
+    let works = c.make_round-told.ensures.works in
     record {
       works = (run.rounds, run.counted, round_last c.requires.formed c.requires.lawful run works c.if-told-eq0.true);
-      size = c.make-round-told.ensures.size ∙ c.rounds.invariant.1;
-      kept = c.make-round-told.ensures.kept ∙ c.rounds.invariant.2;
+      size = c.make_round-told.ensures.size ∙ c.rounds.invariant.1;
+      kept = c.make_round-told.ensures.kept ∙ c.rounds.invariant.2;
     }
 
-pub overflow-add-rounds : goal.overflow-add-rounds
-overflow-add-rounds g c = omega (arith, countable c.requires.formed c.requires.lawful c.rounds.invariant.0)
+pub overflow_add-rounds : goal.overflow_add-rounds
+overflow_add-rounds g c = omega (arith, countable c.requires.formed c.requires.lawful c.rounds.invariant.0)
 
 pub rounds-smaller : goal.rounds-smaller
 rounds-smaller g c =
-    less_left c.requires.formed c.requires.lawful c.rounds.invariant.0 c.make-round-told.ensures.works (omega (arith, c.if-told-eq0.false))
+    less_left c.requires.formed c.requires.lawful c.rounds.invariant.0 c.make_round-told.ensures.works (omega (arith, c.if-told-eq0.false))
 
 pub rounds-preserved : goal.rounds-preserved
 rounds-preserved g c = (
-  round_more c.requires.formed c.requires.lawful c.rounds.invariant.0 c.make-round-told.ensures.works (omega (arith, c.if-told-eq0.false)),
-  c.make-round-told.ensures.size ∙ c.rounds.invariant.1,
-  c.make-round-told.ensures.kept ∙ c.rounds.invariant.2,
+  round_more c.requires.formed c.requires.lawful c.rounds.invariant.0 c.make_round-told.ensures.works (omega (arith, c.if-told-eq0.false)),
+  c.make_round-told.ensures.size ∙ c.rounds.invariant.1,
+  c.make_round-told.ensures.kept ∙ c.rounds.invariant.2,
 )

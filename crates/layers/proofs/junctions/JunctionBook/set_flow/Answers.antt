@@ -10,9 +10,9 @@ returns-in-Below g c =
     let s = g.B.Register.scheme j.below in
     let here = c.in-Below.ensures in
     record {
-      answer = c.set-flow.ensures.answer ∙ below_answer s j.gates c.args.reach here;
+      answer = c.set_flow.ensures.answer ∙ below_answer s j.gates c.args.reach here;
       after =
-          ap (λ t. junction t j.gates) c.set-flow.ensures.after
+          ap (λ t. junction t j.gates) c.set_flow.ensures.after
           ∙ below_after s j.gates c.args.reach (flowing c.args.flow) (λ r. refl) here;
     }
 

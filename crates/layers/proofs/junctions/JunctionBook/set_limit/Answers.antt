@@ -10,9 +10,9 @@ returns-in-Below g c =
     let s = g.B.Register.scheme j.below in
     let here = c.in-Below.ensures in
     record {
-      answer = c.set-limit.ensures.answer ∙ below_answer s j.gates c.args.reach here;
+      answer = c.set_limit.ensures.answer ∙ below_answer s j.gates c.args.reach here;
       after =
-          ap (λ t. junction t j.gates) c.set-limit.ensures.after
+          ap (λ t. junction t j.gates) c.set_limit.ensures.after
           ∙ below_after s j.gates c.args.reach (limited c.args.limit) (λ r. refl) here;
     }
 

@@ -10,6 +10,6 @@ pub returns : goal.returns
 returns g c =
     let s = g.B.Register.scheme c.args.self.now.below in
     record {
-      answer = c.set-flow.ensures.answer ∙ unlisted_alike s (turned s) _ (sym (length-map s.reaches turned_reach));
-      after = ap turned c.set-flow.ensures.after ∙ turned_changed (flowing c.args.flow) (λ r. refl) s _;
+      answer = c.set_flow.ensures.answer ∙ unlisted_alike s (turned s) _ (sym (length-map s.reaches turned_reach));
+      after = ap turned c.set_flow.ensures.after ∙ turned_changed (flowing c.args.flow) (λ r. refl) s _;
     }

@@ -10,6 +10,6 @@ pub returns : goal.returns
 returns g c =
     let s = g.B.Register.scheme c.args.self.now.below in
     record {
-      answer = c.set-limit.ensures.answer ∙ unlisted_alike s (turned s) _ (sym (length-map s.reaches turned_reach));
-      after = ap turned c.set-limit.ensures.after ∙ turned_changed (limited c.args.limit) (λ r. refl) s _;
+      answer = c.set_limit.ensures.answer ∙ unlisted_alike s (turned s) _ (sym (length-map s.reaches turned_reach));
+      after = ap turned c.set_limit.ensures.after ∙ turned_changed (limited c.args.limit) (λ r. refl) s _;
     }

@@ -19,5 +19,5 @@ returns c =
     let within : c.args.reach < length s.reaches = omega (arith, c.args.self.now.rows.ok.0) in
     record {
       answer = sym (unlisted_within s _ within);
-      after = ap (over s) (sym (changed_at (flowing c.args.flow) s.reaches _ _ within c.index-mut.ensures.value));
+      after = ap (over s) (sym (changed_at (flowing c.args.flow) s.reaches _ _ within c.index_mut.ensures.value));
     }

@@ -7,10 +7,10 @@ use Rattle.scheme_file.proofs.Fields.{file_reaches}
 use Rattle.scheme_file.proofs.Patches.{patched_part}
 use Rattle.scheme_file.proofs.files.SchemeFile.put.Goals as goal
 
-pub returns-in-default : goal.returns-in-default
-returns-in-default c =
+pub returns-in_default : goal.returns-in_default
+returns-in_default c =
     let f = c.args.self.now in
-    let past : held_rows f ≤ c.args.reach = c.in-default.ensures in
+    let past : held_rows f ≤ c.args.reach = c.in_default.ensures in
     record {
       answer = sym (unlisted_past (file_scheme f) _ (omega (arith, file_reaches f, past)));
       bytes = cond_above c.args.reach (held_rows f) _ _ _ past refl;
@@ -25,7 +25,7 @@ returns c =
     record {
       answer = sym (unlisted_within (file_scheme f) _ (omega (arith, file_reaches f, found.0)));
       bytes =
-          patched_part (file_bytes f) _ _ c.args.x _ refl c.put-u32.ensures
+          patched_part (file_bytes f) _ _ c.args.x _ refl c.put_u32.ensures
           ∙ ap (λ row. patched (file_bytes f) (row + c.args.offset) c.args.x) found.1
           ∙ cond_below c.args.reach (held_rows f) _ _ found.0;
       rows = refl;

@@ -4,12 +4,12 @@ use Rattle.scheme_file.specs.Numbers.{four_at}
 use Rattle.scheme_file.proofs.Fields.{field_at, field_past}
 use Rattle.scheme_file.proofs.files.book.SchemeFileRegister.limit.Goals as goal
 
-pub returns-in-err-row : goal.returns-in-err-row
-returns-in-err-row c =
-    c.from-residual.ensures ∙ sym (field_past c.args.self.now (λ r. r.limit) c.args.reach c.in-err-row.ensures)
+pub returns-in_err-row : goal.returns-in_err-row
+returns-in_err-row c =
+    c.from_residual.ensures ∙ sym (field_past c.args.self.now (λ r. r.limit) c.args.reach c.in_err-row.ensures)
 
 pub returns : goal.returns
 returns c =
-    let found = c.in-ok-row.ensures in
-    ap Some (c.get-u32.ensures ∙ ap (λ row. four_at (file_bytes c.args.self.now) (row + 4)) found.1)
+    let found = c.in_ok-row.ensures in
+    ap Some (c.get_u32.ensures ∙ ap (λ row. four_at (file_bytes c.args.self.now) (row + 4)) found.1)
     ∙ sym (field_at c.args.self.now (λ r. r.limit) c.args.reach found.0)
