@@ -7,7 +7,7 @@ import re
 import sys
 
 WORDS = ('in_ok', 'in_err', 'in_default', 'from_residual', 'type_inv', 'overflow_add', 'overflow_sub', 'overflow_mul',
-         'overflow_cast', 'overflow_step', 'overflow_shl', 'nonzero_div', 'nonzero_rem', 'slice_bounds', 'offset_bounds',
+         'overflow_cast', 'overflow_step', 'overflow_shl', 'nonzero_div', 'nonzero_rem', 'slice_bounds', 'ok_part', 'err_part', 'offset_bounds',
          'invariant_of', 'index_mut', 'ghost_name', 'unwrap_or', 'as_slice', 'as_mut_slice', 'deref_mut')
 TOKEN = re.compile(r"[^\s(){}\[\],;.|⌜⌝]+")
 
@@ -25,7 +25,7 @@ def main():
             if not path.endswith(('Answers.antt', 'Invariants.antt', 'Choices.antt')):
                 continue
             text = open(path, encoding='utf-8').read()
-            taken = set(re.findall(r"[^\s,{}]+", ' '.join(re.findall(r'use [^\n{]*\{([^}]*)\}', text))))
+            taken = set(re.findall(r"[^\s,{}]+", ' '.join(re.findall(r'use (?![^\n{]*\.Goals\.)[^\n{]*\{([^}]*)\}', text))))
 
             def turned(m):
                 token = m.group(0)
@@ -36,7 +36,7 @@ def main():
                     token = re.sub(r'(?<![^-])' + re.escape(old) + r'(?![^-])', name, token)
                 return token
 
-            after = '\n'.join(line if line.startswith('use ') else TOKEN.sub(turned, line) for line in text.split('\n'))
+            after = '\n'.join(line if line.startswith('use ') and '.Goals.' not in line else TOKEN.sub(turned, line) for line in text.split('\n'))
             if after != text:
                 open(path, 'w', encoding='utf-8').write(after)
 

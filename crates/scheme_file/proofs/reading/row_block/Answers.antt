@@ -6,7 +6,7 @@ use Rattle.scheme_file.specs.Parts.{PartAt}
 use Rattle.scheme_file.proofs.Walks.{walking_none, walking_more, walking_refused, walking_all, asked_of, asked_within, ending_later, taken}
 use Rattle.scheme_file.proofs.Steps.{part_end, rows_from_rows, rows_from_other}
 use Rattle.scheme_file.proofs.reading.row_block.Goals as goal
-use Rattle.scheme_file.proofs.reading.row_block.Goals.{in-Rows, in-default-part}
+use Rattle.scheme_file.proofs.reading.row_block.Goals.{in-Rows, in_default-part}
 
 pub loop-part-init : goal.loop-part-init
 loop-part-init c = walking_none c.args.bytes.now
@@ -33,7 +33,7 @@ loop-part-preserved c =
     let rows : c.match-part.rows ≡ rows_from bs at c.loop-part.rows =
     elim c.match-part.branch [
       | in-Rows w ↦ w.rows-is ∙ sym (rows_from_rows bs at _ _ _ (subst (PartAt bs at) w.in-Rows.is here.1))
-      | in-default-part w ↦ w.rows-is ∙ sym (rows_from_other bs at _ _ here.1 w.in-default-part.not-Rows)
+      | in_default-part w ↦ w.rows-is ∙ sym (rows_from_other bs at _ _ here.1 w.in_default-part.not-Rows)
     ] in
     rw (ends, rows) (walking_more bs at c.loop-part.rows c.loop-part.invariant here.0 asked)
 

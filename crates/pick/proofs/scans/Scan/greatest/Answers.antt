@@ -2,7 +2,7 @@ use Rattle.std.proofs.Common.{◌≡◌, ◌+◌, sym, ◌∙◌, subst, arith}
 use Rattle.pick.specs.Scans.{BestBelow}
 use Rattle.pick.proofs.Best.{best_passes, best_stays, best_yields}
 use Rattle.pick.proofs.scans.Scan.greatest.Goals as goal
-use Rattle.pick.proofs.scans.Scan.greatest.Goals.{in-Some+then-beats, in-Some+else-beats, in-default}
+use Rattle.pick.proofs.scans.Scan.greatest.Goals.{in-Some+then-beats, in-Some+else-beats, in_default}
 
 pub loop-point-preserved : goal.loop-point-preserved
 loop-point-preserved c =
@@ -16,8 +16,8 @@ loop-point-preserved c =
       | in-Some+else-beats w ↦
           subst (BestBelow ks (i + 1)) (sym w.best-is)
           (best_stays ks i _ _ so_far (sym w.in-Some.ensures) (sym w.beats.ensures ∙ w.if-beats.false))
-      | in-default w ↦
-          subst (BestBelow ks (i + 1)) (sym w.best-is) (best_passes ks i _ so_far (sym w.in-default.ensures))
+      | in_default w ↦
+          subst (BestBelow ks (i + 1)) (sym w.best-is) (best_passes ks i _ so_far (sym w.in_default.ensures))
     ]
 
 pub returns : goal.returns
