@@ -33,7 +33,7 @@ def main():
                     return token
                 for name in names:
                     old = name.replace('_', '-')
-                    token = re.sub(r'(?<![^-])' + re.escape(old) + r'(?![^-])', name, token)
+                    token = re.sub(r'(?<![^-+])' + re.escape(old) + r'(?![^-+])', name, token)
                 return token
 
             after = '\n'.join(line if line.startswith('use ') and '.Goals.' not in line else TOKEN.sub(turned, line) for line in text.split('\n'))

@@ -3,7 +3,7 @@ use Rattle.std.proofs.lemmas.List.{append-nil, append_assoc, at_drop_more, at_dr
 use Rattle.std.proofs.lemmas.Bool.{cond-true, cond-false, eq-eqb, ne_eqb}
 use Rattle.claims.specs.Lines.{side_from}
 use Rattle.claims.proofs.lines.side_text.Goals as goal
-use Rattle.claims.proofs.lines.side_text.Goals.{then-mark-eq1+in-ok-point-text+in-ok-push_str, else-mark-eq1}
+use Rattle.claims.proofs.lines.side_text.Goals.{then-mark-eq1+in_ok-point_text+in_ok-push_str, else-mark-eq1}
 
 -- a text with one piece more, and one piece less to come
 one_more : (text piece rest longer coming all : List ℕ) → longer ≡ text ++ piece → coming ≡ piece ++ rest → text ++ coming ≡ all → longer ++ rest ≡ all
@@ -16,7 +16,7 @@ loop-point-preserved c =
     let v = c.loop-point.point in
     let next : side_from v (drop v marks) ≡ cond (eqb (get_or marks v 0) 1) (codes " " ++ decimal v) [] ++ side_from (v + 1) (drop (v + 1) marks) = at_drop_more (side_from v) marks v 0 c.loop-point-test.true in
     elim c.if-mark-eq1.branch [
-      | then-mark-eq1+in-ok-point-text+in-ok-push_str w ↦
+      | then-mark-eq1+in_ok-point_text+in_ok-push_str w ↦
           let piece = w.in_ok-point_text.ensures in
           let pushed = w.in_ok-push_str.ensures.bytes in
           let shown = w.as_str.ensures.value in

@@ -9,7 +9,7 @@ use Rattle.claims.proofs.marks.marks_of.Goals as goal
 
 pub loop-point-init : goal.loop-point-init
 loop-point-init c =
-    let zeros = unmarked _ (vec_items c.in_ok-marks.marks) (c.in_ok-marks.ensures.items-if-clones-equal (λ y e. e)) in
+    let zeros = unmarked _ (vec_items c.in_ok-marks.marks) (c.in_ok-marks.ensures.items_if_clones_equal (λ y e. e)) in
     (zeros.count ∙ c.extent_of.ensures, zeros.bits, zeros.none)
 
 pub index_mut-requires : goal.index_mut-requires
