@@ -52,23 +52,28 @@ fn refusal(number: u16, place: usize) -> Option<Refusal> {
     })
 }
 
-fn walk<P: Pick>(rt: &impl Abort, pick: &mut P, steps: &[Step]) -> Result<(), Fail> {
+// Makes the calls of one trial. A wrong answer ends the test and names the trial.
+fn walk<P: Pick>(rt: &impl Abort, pick: &mut P, trial: &str, steps: &[Step]) {
     for step in steps {
         match *step {
-            Step::Start(points) => assert_eq!(rt; told(pick.start(points)), None),
-            Step::Raise(point, by) => assert_eq!(rt; told(pick.raise(point, by)), None),
-            Step::Take(point, key) => assert_eq!(rt; pick.take(), Some((point, key))),
-            Step::Nothing => assert_eq!(rt; pick.take(), None),
-            Step::NoStart(points) => assert_eq!(rt; told(pick.start(points)), refusal(10, 0)),
+            Step::Start(points) => assert_eq!(rt; told(pick.start(points)), None, "{trial}"),
+            Step::Raise(point, by) => assert_eq!(rt; told(pick.raise(point, by)), None, "{trial}"),
+            Step::Take(point, key) => assert_eq!(rt; pick.take(), Some((point, key)), "{trial}"),
+            Step::Nothing => assert_eq!(rt; pick.take(), None, "{trial}"),
+            Step::NoStart(points) => assert_eq!(rt;
+                told(pick.start(points)),
+                refusal(10, 0),
+                "{trial}"
+            ),
             Step::NoRaise(point, by, number) => {
                 assert_eq!(rt;
                     told(pick.raise(point, by)),
-                    refusal(number, usize::from(point))
+                    refusal(number, usize::from(point)),
+                    "{trial}"
                 )
             }
         }
     }
-    Ok(())
 }
 
 const FRESH_AND_EMPTIED: [Step; 7] = [
@@ -137,21 +142,22 @@ const TIE: [Step; 4] = [
 
 // Either of two equal points may come first; then the other comes.
 fn tie<P: Pick>(rt: &impl Abort, pick: &mut P) -> Result<(), Fail> {
-    walk(rt, pick, &TIE)?;
+    walk(rt, pick, "tie", &TIE);
     let (first, key) = pick.take().ok_or("nothing first")?;
-    assert_eq!(rt; key, 7);
-    assert!(rt; first == 0 || first == 2);
+    assert_eq!(rt; key, 7, "tie");
+    assert!(rt; first == 0 || first == 2, "tie");
     let other = if first == 0 { 2 } else { 0 };
-    walk(rt, pick, &[Step::Take(other, 7), Step::Take(1, 6)])
+    walk(rt, pick, "tie", &[Step::Take(other, 7), Step::Take(1, 6)]);
+    Ok(())
 }
 
 // All trials, on a fresh pick.
 fn trials<P: Pick>(rt: &impl Abort, pick: &mut P) -> Result<(), Fail> {
-    walk(rt, pick, &FRESH_AND_EMPTIED).note("fresh and emptied")?;
-    walk(rt, pick, &SIZES).note("sizes")?;
-    walk(rt, pick, &INSIDE_POINTS).note("inside points")?;
-    walk(rt, pick, &KEY_LIMIT).note("key limit")?;
-    walk(rt, pick, &KEY_LIMIT_IN_STEPS).note("key limit in steps")?;
-    walk(rt, pick, &RESTART).note("restart")?;
-    tie(rt, pick).note("tie")
+    walk(rt, pick, "fresh and emptied", &FRESH_AND_EMPTIED);
+    walk(rt, pick, "sizes", &SIZES);
+    walk(rt, pick, "inside points", &INSIDE_POINTS);
+    walk(rt, pick, "key limit", &KEY_LIMIT);
+    walk(rt, pick, "key limit in steps", &KEY_LIMIT_IN_STEPS);
+    walk(rt, pick, "restart", &RESTART);
+    tie(rt, pick)
 }

@@ -159,7 +159,7 @@ fn writes(rt: HostRuntime) -> Result<(), Fail> {
     let rows = book.into_rows();
     assert_eq!(rt;
         rows.as_slice(),
-        &[reach(0, 1, 3, 9), reach(1, 0, u32::MAX, 2)]
+        [reach(0, 1, 3, 9), reach(1, 0, u32::MAX, 2)].as_slice()
     );
     Ok(())
 }
