@@ -6,7 +6,7 @@ use Rattle.scheme.specs.Scheme.{Scheme}
 use Rattle.scheme.specs.Flow.{Points, Side, Lawful, value, capacity, among}
 use Rattle.scheme.specs.Questions.{WellFormed}
 use Rattle.scheme.specs.Crossings.{left_out}
-use Rattle.flows.specs.Ordering.{left_into, least, Next, Taken, Made}
+use Rattle.flows.specs.Ordering.{left_into, Next, Taken, Made}
 use Rattle.flows.specs.Ordering.Taken.{first, next}
 use Rattle.flows.specs.Ordering.Made.{arrives, stops}
 use Rattle.flows.specs.OrderingLaws.{LeastSide, NoGainFindsTheLeastSide}

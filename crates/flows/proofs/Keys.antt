@@ -8,7 +8,7 @@ use Rattle.scheme.specs.declared.rows.Reach.{Reach}
 use Rattle.scheme.specs.Scheme.{Scheme}
 use Rattle.scheme.specs.Flow.{Points, Lawful, left_on, left_back, among}
 use Rattle.scheme.specs.Questions.{WellFormed, Joined}
-use Rattle.flows.specs.Ordering.{left_to, left_into, grown, key, with_point, grown_from, start_key, least, Made}
+use Rattle.flows.specs.Ordering.{left_to, left_into, grown, key, with_point, grown_from, start_key, Made}
 use Rattle.flows.specs.Ordering.Made.{arrives, stops}
 use Rattle.flows.specs.OrderingLaws.{KeysGrowPointByPoint, KeysStayWithin}
 use Rattle.flows.proofs.Orders.{least_at_most}

@@ -1,8 +1,8 @@
 -- When a call is accepted, and what it leaves then: what code over any pick can lean on.
-use Rattle.std.proofs.Common.{◌≡◌, ℕ, ◌+◌, ◌≤◌, true, set, is_some, Some, None, Option, refl, ap, ◌∙◌, ⊎_elim, arith}
+use Rattle.std.proofs.Common.{◌≡◌, ℕ, ◌+◌, ◌≤◌, true, set, is_some, Some, None, Option, refl, ⊎_elim, arith}
 use Rattle.std.proofs.lemmas.Bool.{cases_lt, le-leb, lt-leb}
-use Rattle.pick.specs.Keys.{Keys, size, key_of, Outside, NoneOutside}
-use Rattle.pick.specs.Calls.{ask_start, after_start, started, unless_refused, greatest_key, ask_raise, after_raise, raised_key, Takes}
+use Rattle.pick.specs.Keys.{Keys, size, Outside, NoneOutside}
+use Rattle.pick.specs.Calls.{ask_start, after_start, started, greatest_key, ask_raise, after_raise, raised_key, Takes}
 
 module _ (ks : Keys) (n : ℕ) (fits : n ≤ size ks) where
   pub start_accepted : ask_start ks n ≡ None

@@ -1,5 +1,5 @@
 -- What the questions to a list of marks come to: it is a side, and its capacity is the value.
-use Rattle.std.proofs.Common.{◌≡◌, ℕ, suc, ◌+◌, ◌-◌, ◌<◌, ◌≤◌, Bool, true, false, cond, not, ◌&&◌, ◌||◌, eqb, ltb, leb, ◌≢◌, List, [], ◌∷◌, length, get_or, ℤ, pos, negsuc, is_ok, Decides, Result, sym, refl, ap, ◌∙◌, ⊎_elim, arith}
+use Rattle.std.proofs.Common.{◌≡◌, ℕ, suc, ◌+◌, ◌-◌, ◌<◌, ◌≤◌, Bool, true, false, cond, not, eqb, leb, ◌≢◌, List, length, get_or, ℤ, pos, negsuc, is_ok, Decides, Result, sym, refl, ap, ◌∙◌, ⊎_elim, arith}
 use lib.IntN.{sub_ℕ}
 use Rattle.std.specs.List.{AllByRecursion as All}
 use Rattle.std.proofs.ByRecursion.{All-get_or, All-from_get_or, Decides-by_and}
@@ -8,7 +8,7 @@ use Rattle.std.proofs.lemmas.Bool.Decides.{nat_tests, Decides-and, Decides-eqb, 
 use Rattle.scheme.specs.declared.faults.CallFault.{CallFault}
 use Rattle.scheme.specs.Refusals.{call_refusal, refusal_of}
 use Rattle.scheme.specs.Scheme.{Scheme}
-use Rattle.scheme.specs.Flow.{Side, Lawful, value, capacity, inflow, outflow}
+use Rattle.scheme.specs.Flow.{Lawful, value, capacity}
 use Rattle.scheme.specs.Questions.{first_no, book_questions, WellFormed}
 use Rattle.scheme.specs.Marks.{ReviewDecides, marked, fitting, all_bits, sided, is_number, tight, MarksSide, side_questions, check_questions}
 use Rattle.scheme.proofs.Asked.{Means, accepted_means, append_means, book_means, or_means, test_means, yes_means, means_like}

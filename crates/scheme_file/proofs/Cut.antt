@@ -1,5 +1,5 @@
 -- A byte string that a walk goes through to its end is cut by it into records, and is laid out from those.
-use Rattle.std.proofs.Common.{◌≡◌, ℕ, zero, suc, ◌+◌, ◌*◌, ◌/◌, ◌%◌, ◌^◌, ◌<◌, ◌≤◌, Bool, true, false, cond, eqb, leb, ◌⊎◌, List, [], ◌∷◌, ◌++◌, map, length, get_or, take, drop, is_some, Some, None, Ok, Err, Option, sym, refl, ap, ◌∙◌, subst, inl, inr, ⊎_elim, mod-eq_of_lt, arith}
+use Rattle.std.proofs.Common.{◌≡◌, ℕ, zero, suc, ◌+◌, ◌*◌, ◌/◌, ◌%◌, ◌<◌, ◌≤◌, Bool, true, false, eqb, leb, List, [], ◌∷◌, ◌++◌, map, length, get_or, take, drop, Some, None, Ok, sym, refl, ap, ◌∙◌, subst, ⊎_elim, mod-eq_of_lt, arith}
 use native.Mathlib.Nat.{div-div-eq-div-mul}
 use Rattle.std.specs.List.{range_with_len, flat_map, AllByRecursion as All}
 use Rattle.std.proofs.lemmas.Nat.{div-mul-add, mod-mul-add}
@@ -15,7 +15,7 @@ use Rattle.scheme_file.specs.Rows.{row_at, row_place, rows_at}
 use Rattle.scheme_file.proofs.Laid.{notes_bytes, length_rows_bytes, joined_append}
 use Rattle.scheme_file.proofs.RowLists.{length_rows}
 use Rattle.scheme_file.proofs.Stays.{walks_on, no_second}
-use Rattle.scheme_file.proofs.Walks.{Taken, taken, walk_on, walk_all}
+use Rattle.scheme_file.proofs.Walks.{taken, walk_on, walk_all}
 
 -- bytes are the digits of the number that they are read as
 two_forth : (a b : ℕ) → a < 256 → b < 256 → two (a + b * 256) ≡ a ∷ b ∷ []

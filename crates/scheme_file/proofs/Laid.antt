@@ -1,11 +1,11 @@
 -- A walk over records that are laid one after another meets just those.
-use Rattle.std.proofs.Common.{◌≡◌, ℕ, zero, suc, ◌+◌, ◌*◌, ◌/◌, ◌%◌, ◌^◌, ◌<◌, ◌≤◌, Bool, true, false, cond, eqb, leb, ◌⊎◌, List, [], ◌∷◌, ◌++◌, map, length, get_or, is_some, Some, None, Ok, Err, Option, sym, refl, ap, ◌∙◌, subst, inl, inr, ⊎_elim, arith}
+use Rattle.std.proofs.Common.{◌≡◌, ℕ, zero, suc, ◌+◌, ◌*◌, ◌/◌, ◌%◌, ◌^◌, ◌<◌, ◌≤◌, Bool, true, false, cond, eqb, leb, List, [], ◌∷◌, ◌++◌, map, length, get_or, is_some, Some, None, Ok, Option, sym, refl, ap, ◌∙◌, subst, arith}
 use Rattle.std.specs.List.{flat_map, AllByRecursion as All}
 use Rattle.std.proofs.lemmas.List.{append_assoc, append-nil, length-append, get_or-append-add, same_lists}
 use Rattle.std.proofs.lemmas.Bool.{and_from, eq-eqb, le-leb, ne_eqb}
 use Rattle.scheme.specs.declared.rows.Reach.{Reach}
 use Rattle.scheme.specs.Scheme.{Scheme}
-use Rattle.scheme_file.specs.Asked.{ask_record, inside, known, headed, rowed, rows_from, block_of_rows, end_at, length_at, kind_at}
+use Rattle.scheme_file.specs.Asked.{ask_record, inside, known, headed, rowed, block_of_rows, end_at, length_at, kind_at}
 use Rattle.scheme_file.specs.Layout.{FileRecord, head, rows, note, kind_of, body_of, row_bytes, record_bytes, Contents, FileOf, RowFits, contents_scheme}
 use Rattle.scheme_file.specs.Numbers.{two, four, two_at, four_at}
 use Rattle.scheme_file.specs.Rows.{row_at, rows_at, scheme_at}

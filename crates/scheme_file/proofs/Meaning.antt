@@ -1,8 +1,7 @@
 -- An accepted file is laid out as its records, and means the register that it is used as.
-use Rattle.std.proofs.Common.{◌≡◌, ℕ, ◌+◌, ◌*◌, ◌/◌, ◌≤◌, leb, List, length, Ok, Err, Result, sym, ap, ◌∙◌, subst, arith}
+use Rattle.std.proofs.Common.{◌≡◌, ℕ, ◌+◌, ◌*◌, ◌/◌, ◌≤◌, leb, List, length, Ok, Err, sym, ap, ◌∙◌, subst, arith}
 use Rattle.std.proofs.lemmas.Bool.{and_from, cond-true, le-leb}
 use Rattle.scheme.specs.declared.faults.Refusal.{Refusal}
-use Rattle.scheme.specs.Scheme.{Scheme}
 use Rattle.scheme_file.specs.declared.files.SchemeFile.{SchemeFile}
 use Rattle.scheme_file.specs.Asked.{end_at, length_at, block_of_rows}
 use Rattle.scheme_file.specs.Files.{Accepted, file_bytes, file_scheme, held_in}

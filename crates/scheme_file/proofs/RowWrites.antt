@@ -1,13 +1,12 @@
 -- A number written into a row: just that field of just that row changes.
-use Rattle.std.proofs.Common.{◌≡◌, ℕ, ◌+◌, ◌*◌, ◌^◌, ◌<◌, ◌≤◌, ◌⊎◌, List, length, get_or, set, sym, refl, ap, ◌∙◌, inl, inr, ⊎_elim, arith}
+use Rattle.std.proofs.Common.{◌≡◌, ℕ, ◌+◌, ◌*◌, ◌^◌, ◌<◌, ◌≤◌, ◌⊎◌, List, length, get_or, set, sym, refl, ◌∙◌, inl, inr, ⊎_elim, arith}
 use Rattle.std.proofs.lemmas.List.{same_lists, length-set, get_or-set_same, get_or-set_other}
 use Rattle.std.proofs.lemmas.Bool.{cases_order}
 use Rattle.scheme.specs.declared.rows.Reach.{Reach}
-use Rattle.scheme.specs.Scheme.{Scheme, changed, over, limited, flowing}
+use Rattle.scheme.specs.Scheme.{changed, over, limited, flowing}
 use Rattle.scheme.proofs.Writes.{changed_at}
-use Rattle.scheme_file.specs.Numbers.{two_at, four_at}
 use Rattle.scheme_file.specs.Rows.{row_at, row_place, rows_at, scheme_at, patched}
-use Rattle.scheme_file.proofs.Patches.{length_patched, two_at_patched, four_at_patched, four_at_patched_here}
+use Rattle.scheme_file.proofs.Patches.{two_at_patched, four_at_patched, four_at_patched_here}
 use Rattle.scheme_file.proofs.RowLists.{length_rows, get_d_rows}
 
 -- a field of four bytes: where it begins in a row, and what a write to it does to the reach

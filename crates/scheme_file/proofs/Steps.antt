@@ -1,10 +1,10 @@
 -- What the part at a place says of the walk's next turn.
-use Rattle.std.proofs.Common.{◌≡◌, ℕ, ◌+◌, ◌<◌, ◌≤◌, min, List, length, Some, None, Option, sym, refl, ap, ◌∙◌, arith, Bor}
+use Rattle.std.proofs.Common.{◌≡◌, ℕ, ◌≤◌, List, Some, Option, sym, refl, ap, arith, Bor}
 use Rattle.std.proofs.lemmas.Bool.{eq-eqb, ne_eqb}
 use Rattle.scheme_file.specs.declared.parts.Part.{Part}
 use Rattle.scheme_file.specs.declared.parts.Part.TheVariants.{Head, Rows, Note}
-use Rattle.scheme_file.specs.Asked.{rows_from, end_at, kind_at, length_at}
-use Rattle.scheme_file.specs.Parts.{PartAt, end_of_part, part_place, part_size}
+use Rattle.scheme_file.specs.Asked.{rows_from, end_at, kind_at}
+use Rattle.scheme_file.specs.Parts.{PartAt, end_of_part}
 
 pub part_end :
     (bs : List ℕ) (at : ℕ) (part : Part) → PartAt bs at part → end_at bs at ≤ 65536 → end_of_part part ≡ end_at bs at

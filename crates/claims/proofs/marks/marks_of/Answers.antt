@@ -1,9 +1,8 @@
-use Rattle.std.proofs.Common.{◌≡◌, ◌<◌, ◌≤◌, length, get_or, set, vec_items, sym, ap, ◌∙◌, subst, arith}
+use Rattle.std.proofs.Common.{◌<◌, ◌≤◌, length, get_or, set, vec_items, ap, ◌∙◌, arith}
 use Rattle.std.proofs.ByRecursion.{All-set}
 use Rattle.std.proofs.lemmas.List.{length-set, take_all}
 use Rattle.scheme.specs.Marks.{marked}
 use Rattle.scheme.specs.Flow.{among}
-use Rattle.claims.specs.Sides.{extent}
 use Rattle.claims.proofs.Marking.{unmarked, marked_more, extent_covers}
 use Rattle.claims.proofs.marks.marks_of.Goals as goal
 

@@ -1,4 +1,4 @@
-use Rattle.std.proofs.Common.{◌≡◌, ℕ, List, Err, vec_items, sym, ap, ◌∙◌, subst, inr, w64, SFits, rules}
+use Rattle.std.proofs.Common.{Err, vec_items, sym, ap, ◌∙◌, subst, inr, w64, SFits, rules}
 use Rattle.std.proofs.lemmas.Result.{err_from_is_err_and}
 use Rattle.std.proofs.lemmas.Int.{to_z-of_z}
 use Rattle.scheme.proofs.Asked.{refuses_all}

@@ -1,4 +1,4 @@
-use Rattle.std.proofs.Common.{◌≡◌, ◌<◌, ◌≤◌, true, false, length, get_or, sym, ◌∙◌, arith}
+use Rattle.std.proofs.Common.{◌<◌, ◌≤◌, length, sym, ◌∙◌, arith}
 use Rattle.scheme.specs.Questions.{carries}
 use Rattle.scheme.specs.Scheme.{no_reach}
 use Rattle.scheme.proofs.Searches.{fail_here, fail_later, fail_nowhere}

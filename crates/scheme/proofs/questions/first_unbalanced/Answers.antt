@@ -1,7 +1,5 @@
-use Rattle.std.proofs.Common.{◌≡◌, ◌-◌, ◌<◌, ◌≤◌, cond, ◌||◌, eqb, length, get_or, sym, ap, ◌∙◌, arith}
-use Rattle.scheme.specs.Flow.{inflow, outflow}
+use Rattle.std.proofs.Common.{◌<◌, ◌≤◌, cond, eqb, length, sym, ap, ◌∙◌, arith}
 use Rattle.scheme.specs.Questions.{steady, first_point}
-use Rattle.scheme.specs.Scheme.{no_reach}
 use Rattle.scheme.proofs.Finds.{field_read}
 use Rattle.scheme.proofs.Searches.{point_here, point_later}
 use Rattle.scheme.proofs.Totals.{sum_step, steady_read}

@@ -1,4 +1,4 @@
-use Rattle.std.proofs.Common.{◌≡◌, ◌<◌, true, false, length, sym, ap, ◌∙◌, arith, below_more}
+use Rattle.std.proofs.Common.{arith}
 use Rattle.std.proofs.lemmas.Bool.{both_ways}
 use Rattle.scheme.specs.Marks.{sided}
 use Rattle.scheme.proofs.Sides.{answers_yes, answers_no, sided_decides, side_fits, fits_side}

@@ -1,5 +1,4 @@
-use Rattle.std.proofs.Common.{◌≡◌, ◌<◌, ◌≤◌, cond, eqb, length, get_or, ap, ◌∙◌, arith}
-use Rattle.scheme.specs.Scheme.{no_reach}
+use Rattle.std.proofs.Common.{◌<◌, ◌≤◌, cond, eqb, length, ◌∙◌, arith}
 use Rattle.scheme.proofs.Finds.{field_read}
 use Rattle.scheme.proofs.Totals.{sum_step, value_read, difference_read}
 use Rattle.scheme.proofs.review.net_outflow.Goals as goal

@@ -1,4 +1,4 @@
-use Rattle.std.proofs.Common.{◌≡◌, ◌%◌, ◌<◌, ◌≤◌, length, sym, refl, ◌∙◌, arith, rules}
+use Rattle.std.proofs.Common.{◌≡◌, ◌%◌, ◌≤◌, length, sym, refl, ◌∙◌, arith, rules}
 use Rattle.scheme_file.specs.Asked.{end_at, kind_at, length_at}
 use Rattle.scheme_file.specs.Reading.{Bytes}
 use Rattle.scheme_file.proofs.PartRecords.{part_at}

@@ -1,7 +1,7 @@
-use Rattle.std.proofs.Common.{◌≡◌, ◌<◌, ◌≤◌, length, is_some, Some, None, sym, ap, ◌∙◌, subst, arith}
+use Rattle.std.proofs.Common.{◌≡◌, is_some, None, sym, ap, ◌∙◌, subst, arith}
 use Rattle.std.proofs.lemmas.Option.{MatchOption-at_some, MatchOption-at_none}
 use Rattle.std.proofs.lemmas.Result.{err_from_is_err_and}
-use Rattle.scheme_file.specs.Asked.{ask_record, end_at, ending, rows_from}
+use Rattle.scheme_file.specs.Asked.{end_at, ending, rows_from}
 use Rattle.scheme_file.specs.Parts.{PartAt}
 use Rattle.scheme_file.proofs.Walks.{walking_none, walking_more, walking_refused, walking_all, asked_of, asked_within, ending_later, taken}
 use Rattle.scheme_file.proofs.Steps.{part_end, rows_from_rows, rows_from_other}

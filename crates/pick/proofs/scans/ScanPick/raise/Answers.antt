@@ -1,4 +1,4 @@
-use Rattle.std.proofs.Common.{sym, ◌∙◌, arith}
+use Rattle.std.proofs.Common.{arith}
 use Rattle.pick.proofs.Keys.{outside_below}
 use Rattle.pick.proofs.scans.ScanPick.raise.Goals as goal
 

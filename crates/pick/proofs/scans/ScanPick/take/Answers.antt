@@ -1,4 +1,4 @@
-use Rattle.std.proofs.Common.{set, None, refl, ap, arith}
+use Rattle.std.proofs.Common.{set, None, refl, ap}
 use Rattle.std.proofs.lemmas.List.{length-set}
 use Rattle.pick.proofs.Best.{none_outside, none_greater}
 use Rattle.pick.proofs.scans.ScanPick.take.Goals as goal

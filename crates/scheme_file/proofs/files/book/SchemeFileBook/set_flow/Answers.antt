@@ -1,4 +1,4 @@
-use Rattle.std.proofs.Common.{◌^◌, ◌<◌, arith}
+use Rattle.std.proofs.Common.{◌^◌, ◌<◌}
 use Rattle.scheme_file.proofs.FileWrites.{file_after, stays_accepted}
 use Rattle.scheme_file.proofs.RowWrites.{flow_field}
 use Rattle.scheme_file.proofs.files.book.SchemeFileBook.set_flow.Goals as goal
