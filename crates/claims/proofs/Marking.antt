@@ -3,7 +3,7 @@ use Rattle.std.proofs.Common.{◌≡◌, ℕ, zero, suc, ◌+◌, ◌<◌, ◌�
 use Rattle.std.proofs.ByRecursion.{All-from_get_or}
 use Rattle.std.proofs.lemmas.List.{take_more, get_or-set_same, get_or-set_other, get_or-replicate, get_or_past, length-replicate}
 use Rattle.std.proofs.lemmas.Bool.{cases_eq, cases_lt, eq-eqb, ne_eqb}
-use Rattle.std.specs.List.{AllByRecursion as All}
+use Rattle.std.specs.List.{AllByRecursion}
 use Rattle.scheme.specs.Marks.{marked}
 use Rattle.scheme.specs.Flow.{among}
 use Rattle.claims.specs.Sides.{extent}
@@ -44,7 +44,7 @@ none_marked n v =
     ap (λ m. eqb m 1)
     (⊎_elim (λ within. get_or-replicate n v 0 0 within) (λ past. get_or_past (replicate n 0) v 0 (rw (length-replicate {A = ℕ} n 0) past)) (cases_lt v n))
 
-zeros_are_bits : (n : ℕ) → All (λ m. m ≤ 1) (replicate n 0)
+zeros_are_bits : (n : ℕ) → AllByRecursion (λ m. m ≤ 1) (replicate n 0)
 zeros_are_bits n =
     All-from_get_or (λ m. m ≤ 1) (replicate n 0) 0
     (λ v within. let short : v < n = rw (length-replicate {A = ℕ} n 0) at within in subst (λ m. m ≤ 1) (sym (get_or-replicate {A = ℕ} n v 0 0 short)) (omega arith))
@@ -62,13 +62,13 @@ extent_covers n (w ∷ side) (suc i) within = extent_covers (max n (w + 1)) side
 -- the marks before the first is set
 pub record Unmarked (n : ℕ) (marks : List ℕ) : Type 0 where
   pub count : length marks ≡ n
-  pub bits : All (λ m. m ≤ 1) marks
+  pub bits : AllByRecursion (λ m. m ≤ 1) marks
   pub none : (v : ℕ) → marked marks v ≡ false
 
 pub unmarked : (n : ℕ) (marks : List ℕ) → marks ≡ replicate n 0 → Unmarked n marks
 unmarked n marks e =
     record {
       count = ap length e ∙ length-replicate {A = ℕ} n 0;
-      bits = subst (All (λ m. m ≤ 1)) (sym e) (zeros_are_bits n);
+      bits = subst (AllByRecursion (λ m. m ≤ 1)) (sym e) (zeros_are_bits n);
       none = λ v. ap (λ ms. marked ms v) e ∙ none_marked n v;
     }

@@ -1,6 +1,6 @@
 // The points of a side as a list of marks.
 ghost use Rattle.std.specs.Prelude.{◌≡◌, ◌<◌, IfOk};
-ghost use Rattle.std.specs.List.{AllByRecursion as All};
+ghost use Rattle.std.specs.List.{AllByRecursion};
 ghost use Rattle.claims.specs.Sides.{extent, MarksOf};
 
 use std::alloc::{AllocError, Global};

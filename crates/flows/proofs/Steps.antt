@@ -1,6 +1,6 @@
 -- What a push does at one point: first along one reach, then along all.
 use Rattle.std.proofs.Common.{◌≡◌, ℕ, ◌+◌, ◌-◌, ◌<◌, ◌≤◌, min, Bool, true, false, cond, ◌&&◌, eqb, ◌≢◌, List, [], ◌∷◌, ◌++◌, length, get_or, take, sum_by, sym, refl, ap, ◌∙◌, arith}
-use Rattle.std.specs.List.{AllZip, AllByRecursion as All}
+use Rattle.std.specs.List.{AllZip, AllByRecursion}
 use Rattle.std.proofs.lemmas.List.{take_more}
 use Rattle.std.proofs.lemmas.List.Sums.{sum_by-cons}
 use Rattle.std.proofs.lemmas.Bool.{cond_both, and_parts, both_ways, eqb-true, eq-eqb, ne_eqb}
@@ -146,12 +146,12 @@ module _ (x : Points) (n v : ℕ) (r : Reach) (needs : Needs) (out : x v ≡ fal
 
 pub record Steps (x : Points) (n v : ℕ) (rs ts : List Reach) (needs after : Needs) : Type 0 where
   pub touched : AllZip (Touched x) rs ts
-  pub within : All (λ r. r.flow ≤ r.limit) rs → All (λ t. t.flow ≤ t.limit) ts
+  pub within : AllByRecursion (λ r. r.flow ≤ r.limit) rs → AllByRecursion (λ t. t.flow ≤ t.limit) ts
   pub conserved :
       (w : ℕ) → sum_by (sends w) ts + sum_by (brings w) rs + needs w ≡ sum_by (sends w) rs + sum_by (brings w) ts + after w
   pub drained : after v ≡ needs v - sum_by (left_to x v) rs
   pub others : (w : ℕ) → x w ≡ false → v ≢ w → after w ≡ needs w
-  pub total : v < n → All (λ r. (r.tail < n) × (r.head < n)) rs → sum_below n after ≡ sum_below n needs
+  pub total : v < n → AllByRecursion (λ r. (r.tail < n) × (r.head < n)) rs → sum_below n after ≡ sum_below n needs
 
 pub steps :
     (x : Points) (n v : ℕ) (rs : List Reach) (needs : Needs) → x v ≡ false

@@ -2,7 +2,7 @@
 -- need, but the outlet's, which needed the gain; the needs together are the gain; points that are done need nothing;
 -- and a reach between two points still to come is as it was, so that what was left into a point is left there still.
 use Rattle.std.proofs.Common.{◌≡◌, ℕ, ◌+◌, ◌-◌, ◌<◌, ◌≤◌, Bool, true, false, cond, ◌&&◌, ◌||◌, eqb, ◌≢◌, List, [], ◌∷◌, reverse, take, sum_by, sym, refl, ap, ◌∙◌, subst, ⊎_elim, arith}
-use Rattle.std.specs.List.{AllZip, AllByRecursion as All}
+use Rattle.std.specs.List.{AllZip, AllByRecursion}
 use Rattle.std.proofs.lemmas.List.Elements.{length_all_zip}
 use Rattle.std.proofs.ByRecursion.{All-take}
 use Rattle.std.proofs.lemmas.List.{length-map}
@@ -25,7 +25,7 @@ use Rattle.flows.proofs.Steps.{Touched, untouched, steps, sends, brings}
 
 pub record Standing (s : Scheme) (gain : ℕ) (todo : List ℕ) (rs : List Reach) (needs : Needs) : Type 0 where
   pub kept : AllZip (Touched (among todo)) s.reaches rs
-  pub within : All (λ r. r.flow ≤ r.limit) rs
+  pub within : AllByRecursion (λ r. r.flow ≤ r.limit) rs
   pub conserved :
       (w : ℕ) → sum_by (sends w) rs + inflow s w + first_needs s gain w ≡ outflow s w + sum_by (brings w) rs + needs w
   pub total : sum_below s.points needs ≡ gain
@@ -84,7 +84,7 @@ module _ (s : Scheme) (gain : ℕ) (formed : WellFormed s) (lawful : Lawful s) w
 
   ends_inside :
       (todo : List ℕ) (rs : List Reach) → AllZip (Touched (among todo)) s.reaches rs
-      → All (λ r. (r.tail < s.points) × (r.head < s.points)) rs
+      → AllByRecursion (λ r. (r.tail < s.points) × (r.head < s.points)) rs
   ends_inside todo rs kept =
       each_all (Touched (among todo)) (Joined s) (λ r. (r.tail < s.points) × (r.head < s.points))
       (λ r t h j. (rw h.alike.tail j.tail_point, rw h.alike.head j.head_point))

@@ -1,6 +1,6 @@
 -- Other flows laid over a register, and over a junction.
 use Rattle.std.proofs.Common.{◌≡◌, ℕ, zero, suc, ◌<◌, List, [], ◌∷◌, ◌++◌, map, length, get_or, sym, refl, ap, ◌∙◌, arith}
-use Rattle.std.specs.List.{range_with_len, AllByRecursion as All}
+use Rattle.std.specs.List.{range_with_len, AllByRecursion}
 use Rattle.std.proofs.lemmas.List.FromFn.{length-map-range_with_len, get_or-map-range_with_len}
 use Rattle.std.proofs.ByRecursion.{All-weaker}
 use Rattle.std.proofs.lemmas.List.{length-map, same_lists}
@@ -35,7 +35,7 @@ flows_map t alike [] fs = refl
 flows_map t alike (r ∷ rs) [] = refl
 flows_map t alike (r ∷ rs) (f ∷ fs) = ap (λ x. x ∷ flows_over (map t rs) fs) (alike f r) ∙ ap (λ rest. t (flowing f r) ∷ rest) (flows_map t alike rs fs)
 
-joined_flows : (s : Scheme) (rs : List Reach) (fs : List ℕ) → All (Joined s) rs → All (Joined s) (flows_over rs fs)
+joined_flows : (s : Scheme) (rs : List Reach) (fs : List ℕ) → AllByRecursion (Joined s) rs → AllByRecursion (Joined s) (flows_over rs fs)
 joined_flows s [] fs all = tt
 joined_flows s (r ∷ rs) [] all = all
 joined_flows s (r ∷ rs) (f ∷ fs) all = (

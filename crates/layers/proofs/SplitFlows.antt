@@ -2,7 +2,7 @@
 -- and no gate carries more than its limit.
 use Rattle.std.proofs.Common.{◌≡◌, ℕ, ◌+◌, ◌-◌, ◌*◌, ◌<◌, ◌≤◌, ◌≢◌, List, [], ◌∷◌, ◌++◌, map, get_or, sym, refl, ap, ◌∙◌, subst, ⊎_elim, arith}
 use lib.IntN.{sub_ℕ}
-use Rattle.std.specs.List.{range_with_len, AllByRecursion as All}
+use Rattle.std.specs.List.{range_with_len, AllByRecursion}
 use Rattle.std.proofs.lemmas.List.FromFn.{length-map-range_with_len, get_or-map-range_with_len}
 use Rattle.std.proofs.ByRecursion.{All-append, All-map, All-get_or, All-from_get_or}
 use Rattle.std.proofs.lemmas.Bool.{cases_eq, cases_lt, eq-eqb, ne_eqb}
@@ -16,26 +16,26 @@ use Rattle.layers.proofs.Splits.{arrival_is, departure_is, inflow_before, outflo
 
 -- what holds of each element of a list's parts
 
-all_left : {X : Type 0} (P : X → Type 0) (xs ys : List X) → All P (xs ++ ys) → All P xs
+all_left : {X : Type 0} (P : X → Type 0) (xs ys : List X) → AllByRecursion P (xs ++ ys) → AllByRecursion P xs
 all_left P [] ys all = tt
 all_left P (x ∷ xs) ys all = (all.0, all_left P xs ys all.1)
 
-all_right : {X : Type 0} (P : X → Type 0) (xs ys : List X) → All P (xs ++ ys) → All P ys
+all_right : {X : Type 0} (P : X → Type 0) (xs ys : List X) → AllByRecursion P (xs ++ ys) → AllByRecursion P ys
 all_right P [] ys all = all
 all_right P (x ∷ xs) ys all = all_right P xs ys all.1
 
-all_unmap : {X Y : Type 0} (P : Y → Type 0) (f : X → Y) (xs : List X) → All P (map f xs) → All (λ x. P (f x)) xs
+all_unmap : {X Y : Type 0} (P : Y → Type 0) (f : X → Y) (xs : List X) → AllByRecursion P (map f xs) → AllByRecursion (λ x. P (f x)) xs
 all_unmap P f [] all = tt
 all_unmap P f (x ∷ xs) all = (all.0, all_unmap P f xs all.1)
 
-pub all_counted : {X : Type 0} (P : X → Type 0) (f : ℕ → X) (n : ℕ) → ((v : ℕ) → v < n → P (f v)) → All P (map f (range_with_len 0 n))
+pub all_counted : {X : Type 0} (P : X → Type 0) (f : ℕ → X) (n : ℕ) → ((v : ℕ) → v < n → P (f v)) → AllByRecursion P (map f (range_with_len 0 n))
 all_counted P f n each =
     All-from_get_or P (map f (range_with_len 0 n)) (f 0)
     (λ v within.
     let point : v < n = omega (arith, length-map-range_with_len f 0 n) in
     subst P (sym (get_or-map-range_with_len f 0 n v v (f 0) point (omega arith))) (each v point))
 
-counted_all : {X : Type 0} (P : X → Type 0) (f : ℕ → X) (n : ℕ) → All P (map f (range_with_len 0 n)) → (v : ℕ) → v < n → P (f v)
+counted_all : {X : Type 0} (P : X → Type 0) (f : ℕ → X) (n : ℕ) → AllByRecursion P (map f (range_with_len 0 n)) → (v : ℕ) → v < n → P (f v)
 counted_all P f n all v point =
     subst P (get_or-map-range_with_len f 0 n v v (f 0) point (omega arith))
     (All-get_or P (map f (range_with_len 0 n)) v (f 0) (omega (arith, length-map-range_with_len f 0 n)) all)

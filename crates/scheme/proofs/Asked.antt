@@ -1,7 +1,7 @@
 -- What the questions to a register come to: it is well formed, and its flow is lawful.
 use Rattle.std.proofs.Common.{◌≡◌, ℕ, ◌<◌, ◌≤◌, Bool, true, false, cond, ◌||◌, eqb, ◌≢◌, List, [], ◌∷◌, ◌++◌, length, is_ok, Some, None, Ok, Err, Decides, Option, Result, sym, refl, ap, ◌∙◌, subst, ⊎_elim, arith}
 use Rattle.std.specs.Option.{option_map}
-use Rattle.std.specs.List.{AllByRecursion as All}
+use Rattle.std.specs.List.{AllByRecursion}
 use Rattle.std.proofs.ByRecursion.{All-weaker}
 use Rattle.std.proofs.lemmas.Bool.{false≢true, leb-true, le-leb, cases_eq, eq-eqb, or_left, or_right}
 use Rattle.std.proofs.lemmas.Bool.Decides.{nat_tests as tells}
@@ -90,14 +90,14 @@ module _ (s : Scheme) where
     λ h. grind (arith, tells),
   )
 
-  ends_mean : Means (ask_ends s) (All (Joined s) s.reaches)
+  ends_mean : Means (ask_ends s) (AllByRecursion (Joined s) s.reaches)
   ends_mean =
       place_means _ _
       (λ e. All-weaker (λ r. joins s r ≡ true) (Joined s) (λ r. (joins_decides r).0) s.reaches (all_pass (joins s) 0 s.reaches e))
       (λ h. none_fails (joins s) 0 s.reaches (All-weaker (Joined s) (λ r. joins s r ≡ true) (λ r. (joins_decides r).1) s.reaches h))
 
   abbrev FormParts : Type 0
-  FormParts = Shaped × All (Joined s) s.reaches
+  FormParts = Shaped × AllByRecursion (Joined s) s.reaches
 
   well_formed : FormParts → WellFormed s
   well_formed h =
@@ -132,7 +132,7 @@ module _ (s : Scheme) where
       means_like _ (λ h. well_formed (h.0, h.1.0)) (λ w. let h = form_parts w in (h.0, (h.1, tt)))
       (or_means _ _ shape_means (or_means _ _ ends_mean yes_means))
 
-  flows_mean : Means (ask_flows s) (All (λ r. r.flow ≤ r.limit) s.reaches)
+  flows_mean : Means (ask_flows s) (AllByRecursion (λ r. r.flow ≤ r.limit) s.reaches)
   flows_mean =
       place_means _ _
       (λ e. All-weaker (λ r. carries r ≡ true) (λ r. r.flow ≤ r.limit) (λ r. leb-true r.flow r.limit) s.reaches (all_pass carries 0 s.reaches e))

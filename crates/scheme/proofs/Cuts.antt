@@ -1,6 +1,6 @@
 -- What leaves a side and what enters it.
 use Rattle.std.proofs.Common.{◌≡◌, ℕ, ◌+◌, ◌-◌, ◌<◌, ◌≤◌, Bool, true, false, cond, not, ◌&&◌, eqb, List, length, ◌≤ℤ◌, sum_by, sym, refl, ap, ◌∙◌, ⊎_elim, arith}
-use Rattle.std.specs.List.{AllByRecursion as All}
+use Rattle.std.specs.List.{AllByRecursion}
 use Rattle.std.proofs.lemmas.List.{length-map}
 use Rattle.std.proofs.lemmas.Int.{ints}
 use Rattle.std.proofs.ByRecursion.{All-weaker}
@@ -17,7 +17,7 @@ use Rattle.scheme.proofs.Relaid.{alike_self, alike_relaid, relaid_alike, formed_
 
 -- what a set of points passes through one end of each reach, summed by points and by reaches
 by_ends :
-    (x : Points) (end : Reach → ℕ) (n : ℕ) (rs : List Reach) → All (λ r. end r < n) rs
+    (x : Points) (end : Reach → ℕ) (n : ℕ) (rs : List Reach) → AllByRecursion (λ r. end r < n) rs
     → sum_below n (λ v. cond (x v) (sum_by (λ r. cond (eqb (end r) v) r.flow 0) rs) 0) ≡ sum_by (λ r. cond (x (end r)) r.flow 0) rs
 by_ends x end n rs inside =
     below_same _ (λ v. sum_by (λ r. cond (x v) (at v r) 0) rs) n (λ v l. sum_by_when (x v) (at v) rs)

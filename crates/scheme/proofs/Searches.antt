@@ -1,6 +1,6 @@
 -- The first that fails a test, as a loop finds it.
 use Rattle.std.proofs.Common.{◌≡◌, ℕ, zero, suc, ◌+◌, ◌-◌, ◌<◌, ◌≤◌, Bool, true, false, cond, List, [], ◌∷◌, length, get_or, drop, Some, None, Option, sym, refl, ap, ◌∙◌, subst, ⊎_elim, arith}
-use Rattle.std.specs.List.{AllByRecursion as All}
+use Rattle.std.specs.List.{AllByRecursion}
 use Rattle.std.proofs.lemmas.List.{at_drop_more, at_drop_all}
 use Rattle.std.proofs.lemmas.Bool.{cond-true, cond-false, cases_Bool, cases_eq}
 use Rattle.scheme.specs.Questions.{first_fail, first_point}
@@ -32,11 +32,11 @@ module _ (p : ℕ → Bool) (n v : ℕ) where
   point_nowhere past = let e : n - v ≡ 0 = omega arith in ap (first_point p v) e
 
 -- nothing fails exactly if all pass
-pub all_pass : {X : Type 0} (p : X → Bool) (k : ℕ) (xs : List X) → first_fail p k xs ≡ None → All (λ x. p x ≡ true) xs
+pub all_pass : {X : Type 0} (p : X → Bool) (k : ℕ) (xs : List X) → first_fail p k xs ≡ None → AllByRecursion (λ x. p x ≡ true) xs
 all_pass p k [] e = tt
 all_pass p k (x ∷ xs) e = ⊎_elim (λ passes. (passes, all_pass p (k + 1) xs (sym (cond-true (p x) _ _ passes) ∙ e))) (λ fails. absurd (some≢none (sym (cond-false (p x) _ _ fails) ∙ e))) (cases_Bool (p x))
 
-pub none_fails : {X : Type 0} (p : X → Bool) (k : ℕ) (xs : List X) → All (λ x. p x ≡ true) xs → first_fail p k xs ≡ None
+pub none_fails : {X : Type 0} (p : X → Bool) (k : ℕ) (xs : List X) → AllByRecursion (λ x. p x ≡ true) xs → first_fail p k xs ≡ None
 none_fails p k [] h = refl
 none_fails p k (x ∷ xs) h = cond-true (p x) _ _ h.0 ∙ none_fails p (k + 1) xs h.1
 

@@ -1,7 +1,7 @@
 -- What the questions to a list of marks come to: it is a side, and its capacity is the value.
 use Rattle.std.proofs.Common.{◌≡◌, ℕ, suc, ◌+◌, ◌-◌, ◌<◌, ◌≤◌, Bool, true, false, cond, not, eqb, leb, ◌≢◌, List, length, get_or, ℤ, pos, negsuc, is_ok, Decides, Result, sym, refl, ap, ◌∙◌, ⊎_elim, arith}
 use lib.IntN.{sub_ℕ}
-use Rattle.std.specs.List.{AllByRecursion as All}
+use Rattle.std.specs.List.{AllByRecursion}
 use Rattle.std.proofs.ByRecursion.{All-get_or, All-from_get_or, Decides-by_and}
 use Rattle.std.proofs.lemmas.Bool.{leb-true, le-leb, eqb-true, eq-eqb, ne_eqb, eqb-false, not-true, not_from_false, false≢true, cases_lt, lt-ltb, le-ltb}
 use Rattle.std.proofs.lemmas.Bool.Decides.{nat_tests, Decides-and, Decides-eqb, Decides-like}
@@ -22,7 +22,7 @@ answers_no true decides no_way = absurd (no_way (decides.0 refl))
 answers_no false decides no_way = refl
 
 -- each mark is 0 or 1
-bits_decide : (marks : List ℕ) → Decides (all_bits marks) (All (λ m. m ≤ 1) marks)
+bits_decide : (marks : List ℕ) → Decides (all_bits marks) (AllByRecursion (λ m. m ≤ 1) marks)
 bits_decide marks = Decides-by_and (λ m. leb m 1) (λ m. m ≤ 1) all_bits (λ m. (leb-true m 1, le-leb m 1)) refl (λ _ _. refl) marks
 
 module _ (s : Scheme) (marks : List ℕ) where

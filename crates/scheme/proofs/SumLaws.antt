@@ -1,17 +1,17 @@
 -- Sums over a list, and over the points below a number.
 use Rattle.std.proofs.Common.{◌≡◌, ℕ, zero, suc, ◌+◌, ◌*◌, ◌<◌, ◌≤◌, Bool, true, false, cond, eqb, List, [], ◌∷◌, sum_by, sym, refl, ap, ◌∙◌, ⊎_elim, suc-mul, zero-mul, arith}
-use Rattle.std.specs.List.{AllZip, AllByRecursion as All}
+use Rattle.std.specs.List.{AllZip, AllByRecursion}
 use Rattle.std.proofs.lemmas.List.Sums.{sum_by-cons}
 use Rattle.std.proofs.lemmas.Bool.{cases_eq, eq-eqb, ne_eqb}
 
 -- ---- over a list
 
 module _ {X : Type 0} where
-  pub all_of : (P : X → Type 0) → ((x : X) → P x) → (xs : List X) → All P xs
+  pub all_of : (P : X → Type 0) → ((x : X) → P x) → (xs : List X) → AllByRecursion P xs
   all_of P h [] = tt
   all_of P h (x ∷ xs) = (h x, all_of P h xs)
 
-  pub all_both : (P Q : X → Type 0) (xs : List X) → All P xs → All Q xs → All (λ x. P x × Q x) xs
+  pub all_both : (P Q : X → Type 0) (xs : List X) → AllByRecursion P xs → AllByRecursion Q xs → AllByRecursion (λ x. P x × Q x) xs
   all_both P Q [] p q = tt
   all_both P Q (x ∷ xs) p q = ((p.0, q.0), all_both P Q xs p.1 q.1)
 
@@ -26,17 +26,17 @@ module _ {X : Type 0} where
       omega (arith, sum_by-cons f x xs, sum_by-cons g x xs, sum_by-cons (λ y. f y + g y) x xs)
 
   -- what holds of each two terms holds of the sums
-  pub sum_by_mono : (f g : X → ℕ) (xs : List X) → All (λ x. f x ≤ g x) xs → sum_by f xs ≤ sum_by g xs
+  pub sum_by_mono : (f g : X → ℕ) (xs : List X) → AllByRecursion (λ x. f x ≤ g x) xs → sum_by f xs ≤ sum_by g xs
   sum_by_mono f g [] h = omega arith
   sum_by_mono f g (x ∷ xs) h = let ih = sum_by_mono f g xs h.1 in omega (arith, sum_by-cons f x xs, sum_by-cons g x xs)
 
-  pub sum_by_same : (f g : X → ℕ) (xs : List X) → All (λ x. f x ≡ g x) xs → sum_by f xs ≡ sum_by g xs
+  pub sum_by_same : (f g : X → ℕ) (xs : List X) → AllByRecursion (λ x. f x ≡ g x) xs → sum_by f xs ≡ sum_by g xs
   sum_by_same f g [] h = refl
   sum_by_same f g (x ∷ xs) h = let ih = sum_by_same f g xs h.1 in omega (arith, sum_by-cons f x xs, sum_by-cons g x xs)
 
   -- and so for two sums on either side
   pub sum_by_balance :
-      (a b c d : X → ℕ) (xs : List X) → All (λ x. a x + b x ≡ c x + d x) xs
+      (a b c d : X → ℕ) (xs : List X) → AllByRecursion (λ x. a x + b x ≡ c x + d x) xs
       → sum_by a xs + sum_by b xs ≡ sum_by c xs + sum_by d xs
   sum_by_balance a b c d xs h =
       sym (sum_by_plus a b xs) ∙ sum_by_same (λ x. a x + b x) (λ x. c x + d x) xs h ∙ sum_by_plus c d xs
@@ -130,7 +130,7 @@ module _ {X : Type 0} (R : X → X → Type 0) where
 
   -- what holds of the elements on one side, and of the pairs
   pub each_all :
-      (P Q : X → Type 0) → ((x y : X) → R x y → P x → Q y) → (xs ys : List X) → AllZip R xs ys → All P xs → All Q ys
+      (P Q : X → Type 0) → ((x y : X) → R x y → P x → Q y) → (xs ys : List X) → AllZip R xs ys → AllByRecursion P xs → AllByRecursion Q ys
   each_all P Q h [] [] e all = tt
   each_all P Q h [] (y ∷ ys) e all = absurd e
   each_all P Q h (x ∷ xs) [] e all = absurd e

@@ -1,7 +1,7 @@
 -- Flows, sides and the gap.
 use Rattle.std.specs.Prelude.{◌≡◌, ℕ, ◌-◌, ◌<◌, ◌≤◌, Bool, true, false, cond, not, ◌&&◌, ◌||◌, ◌≢◌, List, [], ◌∷◌, length, ℤ, pos, ◌+ℤ◌, ◌≤ℤ◌, sum_by, ◌==◌}
 use Rattle.std.proofs.Math.IntN.{sub_ℕ}
-use Rattle.std.specs.List.{AllByRecursion as All}
+use Rattle.std.specs.List.{AllByRecursion}
 use Rattle.scheme.specs.declared.rows.Reach.{Reach}
 use Rattle.scheme.specs.Scheme.{Scheme, with_flows}
 
@@ -19,7 +19,7 @@ value s = sub_ℕ (outflow s s.inlet) (inflow s s.inlet)
 -- A lawful (in the field: feasible) flow: no reach carries more than its limit, and every point but
 -- inlet and outlet passes on just what it gets.
 pub record Lawful (s : Scheme) : Type 0 where
-  pub within : All (λ r. r.flow ≤ r.limit) s.reaches
+  pub within : AllByRecursion (λ r. r.flow ≤ r.limit) s.reaches
   pub balanced : (v : ℕ) → v < s.points → v ≢ s.inlet → v ≢ s.outlet → inflow s v ≡ outflow s v
 
 -- What is left along a reach (its residual capacity): from tail to head the limit less the flow,

@@ -1,6 +1,6 @@
 -- A published side as a list of marks, one for each point, and the questions of its review.
 use Rattle.std.specs.Prelude.{◌≡◌, ℕ, ◌≤◌, Bool, true, false, cond, not, ◌&&◌, ◌||◌, List, [], ◌∷◌, ◌++◌, length, ℤ, pos, negsuc, Some, None, Decides, ◌==◌, nat_le, slice_index}
-use Rattle.std.specs.List.{AllByRecursion as All}
+use Rattle.std.specs.List.{AllByRecursion}
 use Rattle.scheme.specs.declared.faults.Layer.TheVariants.{Call}
 use Rattle.scheme.specs.Scheme.{Scheme}
 use Rattle.scheme.specs.Flow.{Points, Side, Lawful, value, capacity}
@@ -14,7 +14,7 @@ marked marks v = slice_index marks v == 1
 -- a list of marks that is a side: one mark for each point, 0 or 1, and the points with 1 are a side
 pub record MarksSide (s : Scheme) (marks : List ℕ) : Type 0 where
   pub count : length marks ≡ s.points
-  pub bits : All (λ m. m ≤ 1) marks
+  pub bits : AllByRecursion (λ m. m ≤ 1) marks
   pub side : Side s (marked marks)
 
 -- May this mark stand at a point? At the inlet 1, at the outlet 0, elsewhere either.

@@ -1,7 +1,7 @@
 -- The questions put to a register, in their order. The first answered no is the refusal.
 use Rattle.std.specs.Prelude.{ℕ, zero, suc, ◌+◌, ◌<◌, ◌≤◌, Bool, cond, not, ◌&&◌, ◌||◌, ◌≢◌, List, [], ◌∷◌, ◌++◌, length, Some, None, Option, ◌==◌, nat_le, nat_lt}
 use Rattle.std.specs.Option.{option_map}
-use Rattle.std.specs.List.{AllByRecursion as All}
+use Rattle.std.specs.List.{AllByRecursion}
 use Rattle.scheme.specs.declared.faults.Layer.TheVariants.{Book}
 use Rattle.scheme.specs.declared.faults.Refusal.{Refusal}
 use Rattle.scheme.specs.declared.rows.Reach.{Reach}
@@ -87,4 +87,4 @@ pub record WellFormed (s : Scheme) : Type 0 where
   pub inlet_point : s.inlet < s.points
   pub outlet_point : s.outlet < s.points
   pub apart : s.inlet ≢ s.outlet
-  pub joined : All (Joined s) s.reaches
+  pub joined : AllByRecursion (Joined s) s.reaches

@@ -1,7 +1,7 @@
 -- A byte string that a walk goes through to its end is cut by it into records, and is laid out from those.
 use Rattle.std.proofs.Common.{◌≡◌, ℕ, zero, suc, ◌+◌, ◌*◌, ◌/◌, ◌%◌, ◌<◌, ◌≤◌, Bool, true, false, eqb, leb, List, [], ◌∷◌, ◌++◌, map, length, get_or, take, drop, Some, None, Ok, sym, refl, ap, ◌∙◌, subst, ⊎_elim, mod-eq_of_lt, arith}
 use native.Mathlib.Nat.{div-div-eq-div-mul}
-use Rattle.std.specs.List.{range_with_len, flat_map, AllByRecursion as All}
+use Rattle.std.specs.List.{range_with_len, flat_map, AllByRecursion}
 use Rattle.std.proofs.lemmas.Nat.{div-mul-add, mod-mul-add}
 use Rattle.std.proofs.lemmas.List.{append_assoc, drop_all, drop-drop, drop_more, length-drop, length-take-le, take-append-drop}
 use Rattle.std.proofs.lemmas.Bool.{cases_Bool, cases_lt, cond-true, eqb-true, eqb-false, leb-true, le-leb, ne_eqb}
@@ -83,7 +83,7 @@ module _ (bs : List ℕ) (bytes : Bytes bs) where
       ∙ ap (λ l. row_bytes (row_at bs (row_place q a)) ++ l) (rows_from_lem q (a + 1) n e (omega arith) within)
       ∙ sym (append_assoc (row_bytes (row_at bs (row_place q a))) (flat_map row_bytes (map (λ k. row_at bs (row_place q k)) (range_with_len (a + 1) n))) (drop e bs))
 
-  rows_fit : (q a n : ℕ) → All RowFits (map (λ k. row_at bs (row_place q k)) (range_with_len a n))
+  rows_fit : (q a n : ℕ) → AllByRecursion RowFits (map (λ k. row_at bs (row_place q k)) (range_with_len a n))
   rows_fit q a zero = tt
   rows_fit q a (suc n) =
       let p = q + 12 * a in (
@@ -181,7 +181,7 @@ pub record Behind-head (bs : List ℕ) (at : ℕ) : Type 0 where
   pub reaches : List Reach
   pub after : List (List ℕ)
   pub few : length reaches ≤ 4096
-  pub fit : All RowFits reaches
+  pub fit : AllByRecursion RowFits reaches
   pub laid : drop at bs ≡ notes_bytes before ++ (record_bytes (rows reaches) ++ notes_bytes after)
 
 behind_head :

@@ -1,6 +1,6 @@
 -- A walk over records that are laid one after another meets just those.
 use Rattle.std.proofs.Common.{◌≡◌, ℕ, zero, suc, ◌+◌, ◌*◌, ◌/◌, ◌%◌, ◌^◌, ◌<◌, ◌≤◌, Bool, true, false, cond, eqb, leb, List, [], ◌∷◌, ◌++◌, map, length, get_or, is_some, Some, None, Ok, Option, sym, refl, ap, ◌∙◌, subst, arith}
-use Rattle.std.specs.List.{flat_map, AllByRecursion as All}
+use Rattle.std.specs.List.{flat_map, AllByRecursion}
 use Rattle.std.proofs.lemmas.List.{append_assoc, append-nil, length-append, get_or-append-add, same_lists}
 use Rattle.std.proofs.lemmas.Bool.{and_from, eq-eqb, le-leb, ne_eqb}
 use Rattle.scheme.specs.declared.rows.Reach.{Reach}
@@ -137,7 +137,7 @@ whole_rows rs few =
 
 -- the rows that are laid are those that are read
 rows_read :
-    (rs : List Reach) (bs pre rest : List ℕ) → bs ≡ pre ++ (flat_map row_bytes rs ++ rest) → All RowFits rs
+    (rs : List Reach) (bs pre rest : List ℕ) → bs ≡ pre ++ (flat_map row_bytes rs ++ rest) → AllByRecursion RowFits rs
     → (k : ℕ) (d : Reach) → k < length rs → row_at bs (length pre + 12 * k) ≡ get_or rs k d
 rows_read [] bs pre rest laid fit k d below = absurd (omega arith)
 rows_read (r ∷ rs) bs pre rest laid fit zero d below =

@@ -1,6 +1,6 @@
 -- What a scheme file is: its records, laid one after another.
 use Rattle.std.specs.Prelude.{◌≡◌, ℕ, ◌+◌, ◌^◌, ◌<◌, ◌≤◌, List, ◌∷◌, ◌++◌, map, length, drop}
-use Rattle.std.specs.List.{flat_map, AllByRecursion as All}
+use Rattle.std.specs.List.{flat_map, AllByRecursion}
 use Rattle.scheme.specs.declared.rows.Reach.{Reach}
 use Rattle.scheme.specs.Scheme.{Scheme}
 use Rattle.scheme_file.specs.Numbers.{two, four}
@@ -60,7 +60,7 @@ pub record FileOf (bs : List ℕ) (c : Contents) : Type 0 where
   pub points_fit : c.points < 2 ^ 16
   pub inlet_fits : c.inlet < 2 ^ 16
   pub outlet_fits : c.outlet < 2 ^ 16
-  pub rows_fit : All RowFits c.reaches
+  pub rows_fit : AllByRecursion RowFits c.reaches
 
 -- the register that contents stand for
 abbrev pub contents_scheme : Contents → Scheme

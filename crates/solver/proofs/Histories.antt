@@ -1,6 +1,6 @@
 -- Every history keeps the law: each call leaves what stands, and with it its part of the law.
 use Rattle.std.proofs.Common.{◌≡◌, ℕ, eqb, List, [], ◌∷◌, ◌++◌, length, ℤ, Ok, Err, Result, sym, ◌∙◌, subst, arith}
-use Rattle.std.specs.List.{AllByRecursion as All}
+use Rattle.std.specs.List.{AllByRecursion}
 use Rattle.std.proofs.lemmas.Bool.{cond_both, eqb-false}
 use Rattle.scheme.specs.declared.faults.CallFault.{CallFault}
 use Rattle.scheme.specs.declared.faults.CallFault.TheVariants.{Gains}
@@ -33,12 +33,12 @@ use Rattle.solver.proofs.Standing.{Stands, stands_law, stands_then, stands_limit
 
 -- ---- the law of a step, from its answer
 
-none_gained : (rounds : List Gainful) → rounds ≡ [] → All Closes rounds
-none_gained rounds gained = subst (All Closes) (sym gained) tt
+none_gained : (rounds : List Gainful) → rounds ≡ [] → AllByRecursion Closes rounds
+none_gained rounds gained = subst (AllByRecursion Closes) (sym gained) tt
 
 module _ (limits : Scheme) (x : Step) where
   answered :
-      (told : Answer) → x.answer ≡ Ok told → LawfulWith limits x.after → All Closes x.gained
+      (told : Answer) → x.answer ≡ Ok told → LawfulWith limits x.after → AllByRecursion Closes x.gained
       → ((z : Settled) → told ≡ OfSettle z → SettledAt x.after z.value × (z.rounds ≡ length x.gained))
       → ((c : ℕ) → told ≡ OfCut c → LeastCut x.after (marked x.marks) c) → StepLaw limits x
   answered told is lawful closes settled cut =
@@ -79,7 +79,7 @@ record Kept (limits : Scheme) (x : Step) : Type 0 where
 -- ---- call by call
 
 plain :
-    (limits : Scheme) (x : Step) (told : Answer) → Plain told → x.answer ≡ Ok told → All Closes x.gained
+    (limits : Scheme) (x : Step) (told : Answer) → Plain told → x.answer ≡ Ok told → AllByRecursion Closes x.gained
     → Stands limits x.after → Kept limits x
 plain limits x told kind is closes stands =
     record {
@@ -128,10 +128,10 @@ module _ (limits s : Scheme) (x : Step) (here : Stands limits s) where
       let made = steps.0 in
       let leaves = round_leaves made in
       let gain = told.gain in
-      let closes : All Closes (gained_by s made.works.order gain x.after) =
-      cond_both (eqb gain 0) [] (gainful s made.works.order gain x.after ∷ []) (All Closes) (λ _. tt)
+      let closes : AllByRecursion Closes (gained_by s made.works.order gain x.after) =
+      cond_both (eqb gain 0) [] (gainful s made.works.order gain x.after ∷ []) (AllByRecursion Closes) (λ _. tt)
       (λ e. let some : gain ≡ 0 → ⊥ = eqb-false gain 0 e in (round_closes made (omega arith), tt)) in
-      plain limits x (OfRound told) tt is (subst (All Closes) (sym steps.1) closes)
+      plain limits x (OfRound told) tt is (subst (AllByRecursion Closes) (sym steps.1) closes)
       (stands_then here leaves.limits leaves.lawful)
   round_keeps v w (Err fault) steps is =
       stays fault is steps.0.1 steps.1 (λ e. absurd (round_refused v.work v.keys fault steps.0.0 e))

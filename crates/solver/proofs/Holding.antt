@@ -1,7 +1,7 @@
 -- What it comes to that all questions before an ordering were answered yes: the book is in order, and the tables and the
 -- pick hold its points.
 use Rattle.std.proofs.Common.{◌≡◌, ℕ, ◌≤◌, Bool, true, leb, List, [], ◌∷◌, length, sym}
-use Rattle.std.specs.List.{AllByRecursion as All}
+use Rattle.std.specs.List.{AllByRecursion}
 use Rattle.std.proofs.lemmas.Bool.{leb-true, and_parts}
 use Rattle.scheme.specs.Flow.{Lawful}
 use Rattle.scheme.specs.Questions.{WellFormed, book_questions}
@@ -14,7 +14,7 @@ use Rattle.solver.proofs.OwnLaws.{asked_ordering}
 use Rattle.solver.proofs.Yes.{yes_back, yes_first, yes_then, yes_test}
 
 -- every length is at least n
-all_hold : (n : ℕ) (lengths : List ℕ) → hold_all n lengths ≡ true → All (λ l. n ≤ l) lengths
+all_hold : (n : ℕ) (lengths : List ℕ) → hold_all n lengths ≡ true → AllByRecursion (λ l. n ≤ l) lengths
 all_hold n [] hold = tt
 all_hold n (l ∷ ls) hold =
     let parts = and_parts (leb n l) (hold_all n ls) hold in (leb-true n l parts.0, all_hold n ls parts.1)
@@ -22,7 +22,7 @@ all_hold n (l ∷ ls) hold =
 pub record Ready (s : Scheme) (lengths : List ℕ) (ks : Keys) : Type 0 where
   pub formed : WellFormed s
   pub lawful : Lawful s
-  pub tables : All (λ l. s.points ≤ l) lengths
+  pub tables : AllByRecursion (λ l. s.points ≤ l) lengths
   pub room : s.points ≤ size ks
 
 pub ready :

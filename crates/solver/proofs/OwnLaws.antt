@@ -1,6 +1,6 @@
 -- What one use of a call says in the subject's words: each call's own part of the law.
 use Rattle.std.proofs.Common.{◌≡◌, ℕ, ◌<◌, ◌≤◌, Bool, true, false, cond, eqb, ltb, leb, List, [], ◌∷◌, ◌++◌, length, get_or, drop, ℤ, pos, Some, None, Ok, Err, sym, refl, ap, ◌∙◌, subst, ⊎_elim, arith}
-use Rattle.std.specs.List.{AllByRecursion as All}
+use Rattle.std.specs.List.{AllByRecursion}
 use Rattle.std.proofs.lemmas.List.FromFn.{get_or-map-range_with_len, length-map-range_with_len}
 use Rattle.std.proofs.ByRecursion.{All-weaker}
 use Rattle.std.proofs.lemmas.List.{get_or_append_left}
@@ -125,7 +125,7 @@ module _ {s t : Scheme} {w v : Work} {ks ls : Keys} {gain count : ℕ} (made : R
 
 -- every round of a chain closes its part
 pub chain_closes :
-    {s t : Scheme} {rounds : List Gainful} → WellFormed s → Lawful s → Rounds s rounds t → All Closes rounds
+    {s t : Scheme} {rounds : List Gainful} → WellFormed s → Lawful s → Rounds s rounds t → AllByRecursion Closes rounds
 chain_closes formed lawful none = tt
 chain_closes {s} formed lawful (more {t = t} {order = order} {keys = keys} {gain = gain} round some rest) =
     let leaves = round_raises s t order keys gain formed lawful round in (
@@ -152,7 +152,7 @@ module _
         let side = no_gain_least_side t made.works.order made.works.run.keys chain.formed chain.lawful made.works.run.ended in
         record { told = made.valued; greatest = subst (Greatest t) (sym made.valued) side.greatest }
 
-    pub settle_closes : All Closes rounds
+    pub settle_closes : AllByRecursion Closes rounds
     settle_closes = let book = asked_round s w ks made.asked in chain_closes book.0 book.1 made.works.run.chain
 
     pub settle_keeps : SettleKeeps s t z

@@ -1,7 +1,7 @@
 -- The push back through the order, point by point, as the loop makes it.
 use Rattle.std.proofs.Common.{◌≡◌, ℕ, ◌+◌, ◌<◌, ◌≤◌, Bool, false, cond, eqb, ◌≢◌, List, [], ◌∷◌, reverse, length, get_or, take, sym, refl, ap, ◌∙◌, subst, ⊎_elim, arith}
 use mathlib.Core.Path.{fun_ext}
-use Rattle.std.specs.List.{AllZip, AllByRecursion as All}
+use Rattle.std.specs.List.{AllZip, AllByRecursion}
 use Rattle.std.proofs.lemmas.List.FromFn.{fill_by_all, length-map-range_with_len}
 use Rattle.std.proofs.lemmas.List.{length-reverse, length-take-le, reverse-append, take_all, take_more}
 use Rattle.std.proofs.lemmas.Bool.{cases_eq, cond-true, cond-false, eq-eqb, ne_eqb}
@@ -37,7 +37,7 @@ record Asking (s : Scheme) (gain v : ℕ) (todo : List ℕ) (rs : List Reach) (n
   inside : v < s.points
   once : points_of todo v ≡ false
   alike : AllZip Alike s.reaches rs
-  within : All (λ r. r.flow ≤ r.limit) rs
+  within : AllByRecursion (λ r. r.flow ≤ r.limit) rs
   bounded : (count u : ℕ) → u < s.points → (pushed_all (points_of todo) v (take count rs) needs).1 u ≤ gain
 
 module _ {s : Scheme} {order keys : List ℕ} {gain : ℕ} (formed : WellFormed s) (lawful : Lawful s) (made : Made s order keys gain) (some : 0 < gain) where

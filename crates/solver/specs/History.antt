@@ -1,6 +1,6 @@
 -- Lists of calls: what each did, and the law that holds after each call of every list.
 use Rattle.std.specs.Prelude.{◌≡◌, ℕ, ◌<◌, cond, List, [], ◌∷◌, ◌++◌, length, ℤ, Some, None, Ok, Err, vec_items, Option, Result, ◌==◌}
-use Rattle.std.specs.List.{AllByRecursion as All}
+use Rattle.std.specs.List.{AllByRecursion}
 use Rattle.scheme.specs.declared.faults.CallFault.{CallFault}
 use Rattle.scheme.specs.declared.faults.CallFault.TheVariants.{Gains}
 use Rattle.scheme.specs.Scheme.{Scheme, with_limit, emptied}
@@ -116,7 +116,7 @@ pub record StepLaw (limits : Scheme) (x : Step) : Type 0 where
   -- the flow is lawful under the limits in force, and there is exactly one gap
   pub lawful : LawfulWith limits x.after
   -- each round that gained closed the gap by its part, also within settle
-  pub closes : All Closes x.gained
+  pub closes : AllByRecursion Closes x.gained
   -- when settle answers, the value told is the flow's, no lawful flow has more, and the rounds told are those that gained
   pub settled :
       (told : Settled) → x.answer ≡ Ok (OfSettle told)

@@ -1,6 +1,6 @@
 -- The steps of a push on the tables that come with a call, and what each takes for granted.
 use Rattle.std.specs.Prelude.{◌≡◌, ℕ, ◌^◌, ◌<◌, ◌≤◌, List, length, get_or, take, nat_lt, slice_index, slice_index_or}
-use Rattle.std.specs.List.{AllByRecursion as All}
+use Rattle.std.specs.List.{AllByRecursion}
 use Rattle.scheme.specs.declared.rows.Reach.{Reach}
 use Rattle.scheme.specs.Bounds.{noPoint}
 use Rattle.scheme.specs.Flow.{Points, Lawful}
@@ -40,7 +40,7 @@ pushed_point s place need v = pushed_all (earlier place v) v s.reaches (needs_of
 -- what that takes for granted, on the way too
 pub record PointAsks (s : Scheme) (place need : List ℕ) (v : ℕ) : Type 0 where
   pub formed : WellFormed s
-  pub within : All (λ r. r.flow ≤ r.limit) s.reaches
+  pub within : AllByRecursion (λ r. r.flow ≤ r.limit) s.reaches
   pub inside : v < s.points
   pub placed : s.points ≤ length place
   pub asked : s.points ≤ length need
