@@ -9,3 +9,4 @@ pub mod Signs
 pub mod Relaid
 pub mod Cuts
 pub mod Reviews
+pub mod Changes

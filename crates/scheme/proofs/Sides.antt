@@ -10,7 +10,9 @@ use Rattle.scheme.specs.Refusals.{call_refusal, refusal_of}
 use Rattle.scheme.specs.Scheme.{Scheme}
 use Rattle.scheme.specs.Flow.{Lawful, value, capacity}
 use Rattle.scheme.specs.Questions.{first_no, book_questions, WellFormed}
-use Rattle.scheme.specs.Marks.{ReviewDecides, marked, fitting, all_bits, sided, is_number, tight, MarksSide, side_questions, check_questions}
+use Rattle.scheme.specs.Marks.{Pinch, ReviewDecides, marked, fitting, all_bits, sided, is_number, tight, MarksSide, side_questions, check_questions}
+use Rattle.scheme.specs.SideLaws.{Meet}
+use Rattle.scheme.proofs.Cuts.{meet_best}
 use Rattle.scheme.proofs.Asked.{Means, accepted_means, append_means, book_means, or_means, test_means, yes_means, means_like}
 
 -- b is the answer to P
@@ -87,3 +89,29 @@ module _ (s : Scheme) (marks : List ℕ) where
       → ReviewDecides s marks (is_ok r)
   check_law r told form side =
       Decides-like (is_ok r) (λ h. (h.0.1, h.1.1)) (λ h. ((form, h.0), (side, h.1))) (accepted_means call_refusal r _ told check_means)
+
+  check_decides :
+      (r : Result (Unit {0}) CallFault) → refusal_of call_refusal r ≡ first_no (check_questions s marks)
+      → Decides (is_ok r) (Pinch s marks)
+  check_decides r told =
+      Decides-like (is_ok r)
+      (λ h. record { formed = h.0.0; lawful = h.0.1; side = h.1.0; meets = h.1.1 })
+      (λ p. ((p.formed, p.lawful), (p.side, p.meets)))
+      (accepted_means call_refusal r _ told check_means)
+
+  -- what the check promises of an answer, from the refusal that it tells
+  pub record Checked (r : Result (Unit {0}) CallFault) : Type 0 where
+    pub answer : refusal_of call_refusal r ≡ first_no (check_questions s marks)
+    pub law : ReviewDecides s marks (is_ok r)
+    pub accepts : Decides (is_ok r) (Pinch s marks)
+    pub greatest : is_ok r ≡ true → Meet s (marked marks)
+
+  pub checked :
+      (r : Result (Unit {0}) CallFault) → refusal_of call_refusal r ≡ first_no (check_questions s marks) → Checked r
+  checked r told =
+      record {
+        answer = told;
+        law = check_law r told;
+        accepts = check_decides r told;
+        greatest = λ ok. let p = (check_decides r told).0 ok in meet_best s (marked marks) p.formed p.lawful p.side.side p.meets;
+      }

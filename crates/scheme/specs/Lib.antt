@@ -1,3 +1,5 @@
+pub mod Bounds
+pub mod Kept
 pub mod Scheme
 pub mod Flow
 pub mod Refusals

@@ -56,3 +56,11 @@ check_questions s marks = book_questions s ++ side_questions s marks
 abbrev pub ReviewDecides : Scheme → List ℕ → Bool → Type 0
 ReviewDecides s marks accepted =
     WellFormed s → MarksSide s marks → Decides accepted (Lawful s × (value s ≡ pos (capacity s (marked marks))))
+
+-- What the review accepts: the register is well formed, its flow lawful, the marks are a side, and the side's
+-- capacity is the value (in the field: a flow and a cut that meet).
+pub record Pinch (s : Scheme) (marks : List ℕ) : Type 0 where
+  pub formed : WellFormed s
+  pub lawful : Lawful s
+  pub side : MarksSide s marks
+  pub meets : value s ≡ pos (capacity s (marked marks))

@@ -1,5 +1,5 @@
 -- What a register means, and what a write does to it.
-use Rattle.std.specs.Prelude.{ℕ, List, [], ◌∷◌, Some, None, Option, slice_set}
+use Rattle.std.specs.Prelude.{ℕ, List, [], ◌∷◌, map, Some, None, Option, slice_set}
 use Rattle.std.specs.List.{slice_get}
 use Rattle.std.specs.Option.{option_map}
 use Rattle.scheme.specs.declared.rows.Reach.{Reach}
@@ -59,3 +59,7 @@ flows_over (r ∷ rs) (f ∷ fs) = flowing f r ∷ flows_over rs fs
 
 abbrev pub with_flows : Scheme → List ℕ → Scheme
 with_flows s fs = over s (flows_over s.reaches fs)
+
+-- no flow anywhere
+abbrev pub emptied : Scheme → Scheme
+emptied s = over s (map (flowing 0) s.reaches)

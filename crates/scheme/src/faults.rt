@@ -31,7 +31,8 @@ pub enum FileFault {
 
 impl FileFault {
     pub fn refusal(self) -> Refusal
-        ensures { result ≡ file_refusal self }
+        ensures told { result ≡ file_refusal self }
+        ensures alone { (other : FileFault) → file_refusal other ≡ result → other ≡ self }
     {
         let (number, place) = match self {
             FileFault::TooLong => (1, 0),
@@ -61,7 +62,8 @@ pub enum BookFault {
 
 impl BookFault {
     pub fn refusal(self) -> Refusal
-        ensures { result ≡ book_refusal self }
+        ensures told { result ≡ book_refusal self }
+        ensures alone { (other : BookFault) → book_refusal other ≡ result → other ≡ self }
     {
         let (number, place) = match self {
             BookFault::InFile(fault) => return fault.refusal(),
@@ -89,7 +91,8 @@ pub enum PickFault {
 
 impl PickFault {
     pub fn refusal(self) -> Refusal
-        ensures { result ≡ pick_refusal self }
+        ensures told { result ≡ pick_refusal self }
+        ensures alone { (other : PickFault) → pick_refusal other ≡ result → other ≡ self }
     {
         let (number, place) = match self {
             PickFault::TooSmall => (10, 0),
@@ -120,7 +123,8 @@ pub enum CallFault {
 
 impl CallFault {
     pub fn refusal(self) -> Refusal
-        ensures { result ≡ call_refusal self }
+        ensures told { result ≡ call_refusal self }
+        ensures alone { (other : CallFault) → call_refusal other ≡ result → other ≡ self }
     {
         let number = match self {
             CallFault::InBook(fault) => return fault.refusal(),

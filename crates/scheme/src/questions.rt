@@ -44,7 +44,8 @@ pub fn ask_book<R: Register>(register: &R) -> Result<(), BookFault>
     Ok(())
 }
 
-fn is_shaped<R: Register>(register: &R) -> bool
+// Are there from 2 to 512 points and at most 8,192 reaches, and are inlet and outlet two different points?
+pub fn is_shaped<R: Register>(register: &R) -> bool
     ensures { result ≡ shaped (R.scheme register.now) }
 {
     let points = register.points();

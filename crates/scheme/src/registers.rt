@@ -1,5 +1,6 @@
 // The two interfaces: a register, which is read, and a book, which is a register that is written too.
 ghost use Rattle.std.specs.Prelude.{◌≡◌, ℕ, length};
+ghost use Rattle.scheme.specs.Kept.{Kept, nothing_kept};
 ghost use Rattle.scheme.specs.Scheme.{Scheme, tail_at, head_at, limit_at, flow_at, with_limit, with_flow};
 ghost use Rattle.scheme.specs.Refusals.{book_refusal, refusal_of, unlisted};
 
@@ -38,11 +39,16 @@ pub trait Register {
 // A register that can be written. A write is refused exactly if the reach is not in the list, and then
 // changes nothing; otherwise just the one field takes the number.
 pub trait Book: Register {
+    // What no write changes beside the meaning. An implementation that has no more than its meaning keeps nothing.
+    ghost kept: { Self → Kept } = { λ _. nothing_kept };
+
     fn set_limit(&mut self, reach: usize, limit: u32) -> Result<(), BookFault>
-        ensures answer { refusal_of book_refusal result ≡ unlisted (Self.Register.scheme self.old) reach }
-        ensures after { Self.Register.scheme self.new ≡ with_limit (Self.Register.scheme self.old) reach limit };
+        ensures answer { refusal_of book_refusal result ≡ unlisted (Self.scheme self.old) reach }
+        ensures after { Self.scheme self.new ≡ with_limit (Self.scheme self.old) reach limit }
+        ensures kept { kept self.new ≡ kept self.old };
 
     fn set_flow(&mut self, reach: usize, flow: u32) -> Result<(), BookFault>
-        ensures answer { refusal_of book_refusal result ≡ unlisted (Self.Register.scheme self.old) reach }
-        ensures after { Self.Register.scheme self.new ≡ with_flow (Self.Register.scheme self.old) reach flow };
+        ensures answer { refusal_of book_refusal result ≡ unlisted (Self.scheme self.old) reach }
+        ensures after { Self.scheme self.new ≡ with_flow (Self.scheme self.old) reach flow }
+        ensures kept { kept self.new ≡ kept self.old };
 }

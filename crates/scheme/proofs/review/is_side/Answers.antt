@@ -14,4 +14,4 @@ pub returns : goal.returns
 returns g c =
     let s = g.R.Register.scheme c.args.register.now in
     let marks = c.args.marks.now in
-    answers_yes (sided s marks) (sided_decides s marks) (fits_side s marks (omega arith) c.requires.register_bound c.requires.register_bound_2 (λ v within. c.loop-point.invariant v (omega arith)))
+    answers_yes (sided s marks) (sided_decides s marks) (fits_side s marks (omega arith) c.requires.inlet_is_point c.requires.outlet_is_point (λ v within. c.loop-point.invariant v (omega arith)))

@@ -1,4 +1,4 @@
-use Rattle.std.proofs.Common.{◌<◌, ◌≤◌, length, sym, ap, arith}
+use Rattle.std.proofs.Common.{◌<◌, ◌≤◌, length, sym, refl, ap, arith}
 use Rattle.scheme.specs.Scheme.{over, flowing}
 use Rattle.scheme.specs.Tables.{table_scheme}
 use Rattle.scheme.proofs.Writes.{changed_past, changed_at, unlisted_past, unlisted_within}
@@ -11,6 +11,7 @@ returns-then-reach-len c =
     record {
       answer = sym (unlisted_past s _ past);
       after = ap (over s) (sym (changed_past (flowing c.args.flow) s.reaches _ past));
+      kept = refl;
     }
 
 pub returns : goal.returns
@@ -20,4 +21,5 @@ returns c =
     record {
       answer = sym (unlisted_within s _ within);
       after = ap (over s) (sym (changed_at (flowing c.args.flow) s.reaches _ _ within c.index_mut.ensures.value));
+      kept = refl;
     }
