@@ -1,3 +1,4 @@
 pub mod Keys
 pub mod Calls
 pub mod Scans
+pub mod Trees

@@ -2,10 +2,13 @@
 #![tactic(auto)]
 
 pub mod either;
+pub mod heaps;
 pub mod picks;
 pub mod scans;
+mod trees;
 
 pub use either::Either;
+pub use heaps::Heap;
 pub use picks::{GREATEST_KEY, Pick};
 pub use scans::Scan;
 
