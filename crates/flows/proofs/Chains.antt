@@ -43,7 +43,7 @@ come_along {s} formed lawful (more {t = t} {u = u} {order = order} {keys = keys}
     }
 
 -- what is left out of a side bounds what a flow under the same limits has gained
-gained_within_side :
+pub gained_within_side :
     (s t : Scheme) (x : Points) (gained : ℕ) → WellFormed s → Lawful s → Side s x → SameLimits s t → Lawful t
     → value t ≡ value s +ℤ pos gained → left_out t x + gained ≡ left_out s x
 gained_within_side s t x gained formed lawful side limits lawful' raised =
@@ -127,7 +127,7 @@ settle (suc fuel) s x formed lawful side enough =
     (one_round s x formed lawful side)
 
 -- the inlet alone is a side
-inlet_side : (s : Scheme) → WellFormed s → Side s (among (s.inlet ∷ []))
+pub inlet_side : (s : Scheme) → WellFormed s → Side s (among (s.inlet ∷ []))
 inlet_side s formed =
     record {
       holds = or_left (eqb s.inlet s.inlet) false (eq-eqb s.inlet s.inlet refl);

@@ -43,13 +43,13 @@ among_get_or (w ∷ ws) zero l = or_left (eqb w w) (among ws w) (eq-eqb w w refl
 among_get_or (w ∷ ws) (suc i) l = or_right (eqb w (get_or ws i 0)) (among ws (get_or ws i 0)) (among_get_or ws i (omega arith))
 
 -- an order so far, with room for every point outside
-record Fitting (s : Scheme) (ws ks : List ℕ) : Type 0 where
-  later : List ℕ
-  starts : ws ≡ s.inlet ∷ later
-  keyed : length ws ≡ length ks + 1
-  points : (v : ℕ) → among ws v ≡ true → v < s.points
-  once : (i j : ℕ) → i < j → j < length ws → get_or ws i 0 ≢ get_or ws j 0
-  room : length ws + outsiders s (among ws) ≤ s.points
+pub record Fitting (s : Scheme) (ws ks : List ℕ) : Type 0 where
+  pub later : List ℕ
+  pub starts : ws ≡ s.inlet ∷ later
+  pub keyed : length ws ≡ length ks + 1
+  pub points : (v : ℕ) → among ws v ≡ true → v < s.points
+  pub once : (i j : ℕ) → i < j → j < length ws → get_or ws i 0 ≢ get_or ws j 0
+  pub room : length ws + outsiders s (among ws) ≤ s.points
 
 fitting_first : (s : Scheme) → WellFormed s → Fitting s (s.inlet ∷ []) []
 fitting_first s formed =
@@ -89,7 +89,7 @@ fitting_next s ws ks v k out fits =
         fits.once i j less behind (sym early ∙ same ∙ get_or_append_left ws (v ∷ []) 0 j behind))
         (cases_eq j (length ws))
 
-taken_fits : (s : Scheme) {ws ks : List ℕ} → WellFormed s → Taken s ws ks → Fitting s ws ks
+pub taken_fits : (s : Scheme) {ws ks : List ℕ} → WellFormed s → Taken s ws ks → Fitting s ws ks
 taken_fits s formed first = fitting_first s formed
 taken_fits s formed (next {ws = ws} {ks = ks} {v = v} {k = k} taken n above inner) =
     fitting_next s ws ks v k n.outside (taken_fits s formed taken)

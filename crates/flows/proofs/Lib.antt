@@ -11,3 +11,4 @@ pub mod Gaps
 pub mod Searches
 pub mod Chains
 pub mod Examples
+pub mod Told

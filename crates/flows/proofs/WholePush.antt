@@ -126,12 +126,12 @@ module _ (s : Scheme) (gain : ℕ) (formed : WellFormed s) (lawful : Lawful s) w
       subst (λ (p : List Reach × Needs). Standing s gain (s.inlet ∷ []) p.0 p.1) (sym (back_one v ws rs needs ready))
       (standing_back (pushed_all (among ws) v rs needs).0 (pushed_all (among ws) v rs needs).1 ready (standing_next v ws rs needs point out enough now))
 
-  ready_rest :
+  pub ready_rest :
       {v w : ℕ} {ws : List ℕ} → Ready s gain (v ∷ (w ∷ ws))
       → (v < s.points) × (among (w ∷ ws) v ≡ false) × (gain ≤ left_into s (among (w ∷ ws)) v) × Ready s gain (w ∷ ws)
   ready_rest (more point out enough ready) = (point, out, enough, ready)
 
-  stage_standing :
+  pub stage_standing :
       (order : List ℕ) {todo : List ℕ} {rs : List Reach} {needs : Needs} → Ready s gain (reverse order)
       → among (reverse order) s.outlet ≡ true → Stage s order gain todo rs needs
       → Ready s gain todo × Standing s gain todo rs needs
