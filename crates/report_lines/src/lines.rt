@@ -1,6 +1,6 @@
 // The lines of a report, each put at the start of a table. Each answers its length.
 ghost use Rattle.std.specs.Prelude.{◌≡◌, ◌+◌, ◌*◌, ◌<◌, ◌≤◌, ◌++◌, length, codes, decimal};
-ghost use Rattle.scheme.specs.Bounds.{mostPoints};
+ghost use Rattle.scheme.specs.Bounds.{most_points};
 ghost use Rattle.report_lines.specs.Laid.{Lays};
 ghost use Rattle.report_lines.specs.Lines.{number_line, value_line, side_from, side_line, flow_line};
 
@@ -48,10 +48,10 @@ fn put_point(table: &mut [u8], at: usize, point: usize) -> usize
 
 // The marked points in number order, each after a space.
 fn put_side(table: &mut [u8], at: usize, marks: &[u8]) -> usize
-    requires marks_len_bound { length marks.now ≤ mostPoints }
-    requires most_points_in_bounds { at + 4 * mostPoints + 20 ≤ length table.old }
+    requires marks_len_bound { length marks.now ≤ most_points }
+    requires most_points_in_bounds { at + 4 * most_points + 20 ≤ length table.old }
     ensures lays { Lays at (side_from 0 marks.now) table.old table.new result }
-    ensures short { result ≤ at + 4 * mostPoints }
+    ensures short { result ≤ at + 4 * most_points }
 {
     let mut behind = at;
     for (point, mark) in marks.iter().enumerate() {
@@ -63,8 +63,8 @@ fn put_side(table: &mut [u8], at: usize, marks: &[u8]) -> usize
 }
 
 pub fn put_side_line(table: &mut [u8], marks: &[u8]) -> usize
-    requires marks_len_bound { length marks.now ≤ mostPoints }
-    requires most_points_in_bounds { 4 * mostPoints + 24 ≤ length table.old }
+    requires marks_len_bound { length marks.now ≤ most_points }
+    requires most_points_in_bounds { 4 * most_points + 24 ≤ length table.old }
     ensures { Lays 0 (side_line marks.now) table.old table.new result }
 {
     let points = put_text(table, 0, b"side");

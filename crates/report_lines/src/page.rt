@@ -1,6 +1,6 @@
 // One line of a report.
 ghost use Rattle.std.specs.Prelude.{◌≡◌, ◌≤◌, [], length, slice_index_or};
-ghost use Rattle.scheme.specs.Bounds.{mostPoints, mostReaches};
+ghost use Rattle.scheme.specs.Bounds.{most_points, most_reaches};
 ghost use Rattle.scheme.specs.Flow.{value};
 ghost use Rattle.scheme.specs.Scheme.{flow_at};
 ghost use Rattle.report_lines.specs.Laid.{Lays, written};
@@ -35,8 +35,8 @@ fn put_line<R: Register>(
     line: usize,
     table: &mut [u8],
 ) -> usize
-    requires register_len_bound { length (R.scheme register.now).reaches ≤ mostReaches }
-    requires marks_len_bound { length marks.now ≤ mostPoints }
+    requires register_len_bound { length (R.scheme register.now).reaches ≤ most_reaches }
+    requires marks_len_bound { length marks.now ≤ most_points }
     requires table_len { length table.old ≡ 4096 }
     ensures { Lays 0 (slice_index_or (lines_of_report (R.scheme register.now) marks.now rounds) line [])
         table.old table.new result }
@@ -53,7 +53,7 @@ fn put_line<R: Register>(
 
 // The value of a register that has no more reaches than it may have.
 fn value_of_few<R: Register>(register: &R) -> i64
-    requires { length (R.scheme register.now).reaches ≤ mostReaches }
+    requires { length (R.scheme register.now).reaches ≤ most_reaches }
     ensures { result ≡ value (R.scheme register.now) }
 {
     value_unasked(register).unwrap_or(0)

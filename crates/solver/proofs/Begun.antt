@@ -3,7 +3,7 @@ use Rattle.std.proofs.Common.{◌≡◌, ℕ, ◌≤◌, List, [], ◌∷◌, ma
 use Rattle.std.specs.List.{range_with_len}
 use Rattle.std.proofs.lemmas.List.FromFn.{length-map-range_with_len}
 use Rattle.scheme.specs.Scheme.{Scheme}
-use Rattle.scheme.specs.Flow.{points_of}
+use Rattle.scheme.specs.Flow.{among}
 use Rattle.scheme.specs.Questions.{WellFormed}
 use Rattle.pick.specs.Keys.{Keys}
 use Rattle.flows.proofs.Fits.{orders_fit}
@@ -28,7 +28,7 @@ module _ (s : Scheme) (o p o' p' : List ℕ) (v n : ℕ) (cleared : List ℕ) (f
       ∙ ap (λ m. set (written (map (position 0 []) (range_with_len 0 m)) p) s.inlet 0) is-points
       ∙ written_places s [] s.inlet 0 refl formed.inlet_point refl p
 
-  pub order_begun : (ks : Keys) → HoldsKeys s (points_of []) (points_of (s.inlet ∷ [])) ks → OrderBegun s o' p' ks
+  pub order_begun : (ks : Keys) → HoldsKeys s (among []) (among (s.inlet ∷ [])) ks → OrderBegun s o' p' ks
   order_begun ks held =
       record {
         order_table = written_stays (s.inlet ∷ []) o o' order_first;

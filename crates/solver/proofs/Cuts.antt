@@ -6,8 +6,8 @@ use Rattle.std.proofs.lemmas.List.FromFn.{length-map-range_with_len, get_or-map-
 use Rattle.std.proofs.lemmas.List.{get_or_append_left}
 use Rattle.std.proofs.lemmas.Bool.{cases_Bool, cond-true, ne_eqb, le-leb, or_left}
 use Rattle.scheme.specs.declared.faults.CallFault.{CallFault}
-use Rattle.scheme.specs.Bounds.{noPoint, mostReaches}
-use Rattle.scheme.specs.Flow.{capacity, points_of}
+use Rattle.scheme.specs.Bounds.{no_point, most_reaches}
+use Rattle.scheme.specs.Flow.{capacity, among}
 use Rattle.scheme.specs.Marks.{marked}
 use Rattle.scheme.specs.Questions.{WellFormed}
 use Rattle.scheme.specs.Scheme.{Scheme}
@@ -23,26 +23,26 @@ use Rattle.solver.proofs.OwnLaws.{marks_tell, capacity_same}
 
 -- the mark of a point, read off a table of places
 abbrev pub mark_at : List ℕ → ℕ → ℕ
-mark_at place v = cond (eqb (get_or place v 0) noPoint) 0 1
+mark_at place v = cond (eqb (get_or place v 0) no_point) 0 1
 
 -- a point has no position exactly if the order lacks it
 position_none :
-    (ws : List ℕ) (k v : ℕ) → k + length ws ≤ noPoint → eqb (position k ws v) noPoint ≡ not (points_of ws v)
+    (ws : List ℕ) (k v : ℕ) → k + length ws ≤ no_point → eqb (position k ws v) no_point ≡ not (among ws v)
 position_none [] k v room = refl
 position_none (w ∷ ws) k v room =
     ⊎_elim
     (λ hit.
-    ap (λ n. eqb n noPoint) (cond-true (eqb w v) k (position (k + 1) ws v) hit)
-    ∙ ne_eqb k noPoint (λ e. omega arith) ∙ sym (ap not (or_left (eqb w v) (points_of ws v) hit)))
+    ap (λ n. eqb n no_point) (cond-true (eqb w v) k (position (k + 1) ws v) hit)
+    ∙ ne_eqb k no_point (λ e. omega arith) ∙ sym (ap not (or_left (eqb w v) (among ws v) hit)))
     (λ miss. rw miss (position_none ws (k + 1) v (omega arith)))
     (cases_Bool (eqb w v))
 
 -- so the marks that the places tell are those of the order
 marks_are :
-    (s : Scheme) (order p : List ℕ) → length order ≤ noPoint
+    (s : Scheme) (order p : List ℕ) → length order ≤ no_point
     → map (mark_at (written (places s order) p)) (range_with_len 0 s.points) ≡ marks_of s order
 marks_are s order p short =
-    fill_by_all (λ v. cond (points_of order v) 1 0) _ n 0 (length-map-range_with_len mark 0 n)
+    fill_by_all (λ v. cond (among order v) 1 0) _ n 0 (length-map-range_with_len mark 0 n)
     (λ v l. get_or-map-range_with_len mark 0 n v v 0 l (omega arith) ∙ at v l)
   where
     n : ℕ
@@ -55,25 +55,25 @@ marks_are s order p short =
     turned true = refl
     turned false = refl
 
-    at : (v : ℕ) → v < n → mark v ≡ cond (points_of order v) 1 0
+    at : (v : ℕ) → v < n → mark v ≡ cond (among order v) 1 0
     at v l =
         let long = length-map-range_with_len (position 0 order) 0 n in
         let placed = get_or_append_left (places s order) (drop (length (places s order)) p) 0 v (omega arith)
         ∙ get_or-map-range_with_len (position 0 order) 0 n v v 0 l (omega arith) in
-        ap (λ m. cond (eqb m noPoint) 0 1) placed
-        ∙ ap (λ b. cond b 0 1) (position_none order 0 v (omega arith)) ∙ turned (points_of order v)
+        ap (λ m. cond (eqb m no_point) 0 1) placed
+        ∙ ap (λ b. cond b 0 1) (position_none order 0 v (omega arith)) ∙ turned (among order v)
 
 -- ---- the capacity
 
 -- a well-formed scheme has one, and the marks tell that of the order
 pub capacity_is :
     (s : Scheme) (order marks after : List ℕ) (c : Option ℕ) → WellFormed s → after ≡ written (marks_of s order) marks
-    → c ≡ cond (leb (length s.reaches) mostReaches) (Some (capacity s (marked after))) None
-    → unwrap_or c 0 ≡ capacity s (points_of order)
+    → c ≡ cond (leb (length s.reaches) most_reaches) (Some (capacity s (marked after))) None
+    → unwrap_or c 0 ≡ capacity s (among order)
 capacity_is s order marks after c formed are is =
-    ap (λ o. unwrap_or o 0) (is ∙ cond-true _ _ _ (le-leb (length s.reaches) mostReaches formed.few_reaches))
+    ap (λ o. unwrap_or o 0) (is ∙ cond-true _ _ _ (le-leb (length s.reaches) most_reaches formed.few_reaches))
     ∙ ap (λ ms. capacity s (marked ms)) are
-    ∙ capacity_same s (marked (written (marks_of s order) marks)) (points_of order) formed
+    ∙ capacity_same s (marked (written (marks_of s order) marks)) (among order) formed
     (marks_tell s order (drop (length (marks_of s order)) marks))
 
 -- ---- the tables
@@ -109,7 +109,7 @@ module _
         → after ≡ written (marks_of s m.order) marks
     marks_written marks after formed is =
         let fits = orders_fit s m.order m.keys gain formed m.made in
-        let short : length m.order ≤ noPoint = omega (arith, fits.short, formed.few_points) in
+        let short : length m.order ≤ no_point = omega (arith, fits.short, formed.few_points) in
         is ∙ ap (λ q. written (map (mark_at q) (range_with_len 0 points)) marks) m.place_table
         ∙ ap (λ k. written (map (mark_at (written (places s m.order) p)) (range_with_len 0 k)) marks) all
         ∙ ap (λ ms. written ms marks) (marks_are s m.order p short)

@@ -5,15 +5,15 @@ use Rattle.std.proofs.lemmas.List.{get_or-set_same, get_or-set_other}
 use Rattle.std.proofs.lemmas.Bool.{cases_eq, eq-eqb, ne_eqb, lt-ltb, ltb-true, and_parts, not-true}
 use Rattle.std.proofs.lemmas.Bool.Decides.{nat_tests}
 use Rattle.scheme.specs.declared.rows.Reach.{Reach}
-use Rattle.scheme.specs.Bounds.{greatest_key}
+use Rattle.pick.specs.Calls.{greatest_key}
 use Rattle.scheme.specs.Scheme.{Scheme}
-use Rattle.scheme.specs.Flow.{Points, points_of}
+use Rattle.scheme.specs.Flow.{Points, among}
 use Rattle.scheme.specs.Questions.{WellFormed}
 use Rattle.scheme.proofs.SumLaws.{all_of, sum_by_same, sum_by_none}
 use Rattle.pick.specs.Keys.{Keys, size, key_of, Outside, NoneOutside}
 use Rattle.pick.specs.Calls.{started, after_raise, Taken}
 use Rattle.pick.proofs.Keys.{outside_below, key_of_started}
-use Rattle.flows.specs.Ordering.{left_to, key, grown_from, Untaken, Next}
+use Rattle.flows.specs.Ordering.{left_to, key, grown_from, Outside as Untaken, Next}
 use Rattle.flows.specs.OrderingLaws.{KeysWithin}
 use Rattle.flows.proofs.Keys.{keys_grow}
 use Rattle.flows.proofs.Orders.{among_push, among_last, among_with}
@@ -69,8 +69,8 @@ next_taken s x ks after v k held takes =
 
 -- it is among the taken ones then
 pub held_taken :
-    (s : Scheme) (x : Points) (ws : List ℕ) (ks after : Keys) (v k : ℕ) → HoldsKeys s x (points_of ws) ks
-    → Taken ks v k after → HoldsKeys s x (points_of (ws ++ v ∷ [])) after
+    (s : Scheme) (x : Points) (ws : List ℕ) (ks after : Keys) (v k : ℕ) → HoldsKeys s x (among ws) ks
+    → Taken ks v k after → HoldsKeys s x (among (ws ++ v ∷ [])) after
 held_taken s x ws ks after v k held takes w =
     ap (λ ks. key_of ks w) takes.leaves
     ∙ ⊎_elim
@@ -78,7 +78,7 @@ held_taken s x ws ks after v k held takes w =
     rw (e, among_last ws v)
     (get_or-set_same ks v None None (outside_below ks v k takes.outside) ∙ sym (absent (ltb v s.points) (key s x v))))
     (λ (ne : w ≡ v → ⊥).
-    rw (among_push ws v w, ne_eqb v w (λ e. ne (sym e)), or_none (points_of ws w)) (get_or-set_other ks v w None None ne ∙ held w))
+    rw (among_push ws v w, ne_eqb v w (λ e. ne (sym e)), or_none (among ws w)) (get_or-set_other ks v w None None ne ∙ held w))
     (cases_eq w v)
   where
     or_none : (b : Bool) → (b || false) ≡ b
@@ -86,30 +86,30 @@ held_taken s x ws ks after v k held takes w =
     or_none false = refl
 
 -- the keys from one point more
-module _ (s : Scheme) (ws : List ℕ) (last : ℕ) (taken : Points) (ks : Keys) (new : points_of ws last ≡ false)
-    (held : HoldsKeys s (points_of ws) taken ks) where
-  key_grown : (v : ℕ) → key s (points_of (ws ++ last ∷ [])) v ≡ grown_from last v s.reaches (key s (points_of ws) v)
-  key_grown v = ap (λ x. key s x v) (among_with ws last) ∙ keys_grow s (points_of ws) last v new
+module _ (s : Scheme) (ws : List ℕ) (last : ℕ) (taken : Points) (ks : Keys) (new : among ws last ≡ false)
+    (held : HoldsKeys s (among ws) taken ks) where
+  key_grown : (v : ℕ) → key s (among (ws ++ last ∷ [])) v ≡ grown_from last v s.reaches (key s (among ws) v)
+  key_grown v = ap (λ x. key s x v) (among_with ws last) ∙ keys_grow s (among ws) last v new
 
   pub held_grown :
-      (after : Keys) → GrownFrom last s.reaches ks after → HoldsKeys s (points_of (ws ++ last ∷ [])) taken after
+      (after : Keys) → GrownFrom last s.reaches ks after → HoldsKeys s (among (ws ++ last ∷ [])) taken after
   held_grown after grown v =
       grown v ∙ ap (option_map (grown_from last v s.reaches)) (held v)
-      ∙ mapped_cond (grown_from last v s.reaches) (ltb v s.points && not (taken v)) (key s (points_of ws) v)
+      ∙ mapped_cond (grown_from last v s.reaches) (ltb v s.points && not (taken v)) (key s (among ws) v)
       ∙ ap (λ k. cond (ltb v s.points && not (taken v)) (Some k) None) (sym (key_grown v))
 
-  pub room_held : KeysWithin s → RoomToGrow last s.reaches ks
+  pub room_held : KeysWithin greatest_key s → RoomToGrow last s.reaches ks
   room_held within w k count out =
       let P : ℕ → Type 0 = λ k. grown_from last w (take count s.reaches) k ≤ greatest_key in
-      subst P (sym (outside_key s (points_of ws) taken ks held w k out)) (within.on_the_way (points_of ws) last w count new)
+      subst P (sym (outside_key s (among ws) taken ks held w k out)) (within.on_the_way (among ws) last w count new)
 
 -- ---- the inlet, which is taken first
 
-no_points_no_key : (s : Scheme) (v : ℕ) → key s (points_of []) v ≡ 0
+no_points_no_key : (s : Scheme) (v : ℕ) → key s (among []) v ≡ 0
 no_points_no_key s v =
-    sum_by_same (left_to (points_of []) v) (λ r. 0) s.reaches (all_of _ none s.reaches) ∙ sum_by_none s.reaches
+    sum_by_same (left_to (among []) v) (λ r. 0) s.reaches (all_of _ none s.reaches) ∙ sum_by_none s.reaches
   where
-    none : (r : Reach) → left_to (points_of []) v r ≡ 0
+    none : (r : Reach) → left_to (among []) v r ≡ 0
     none r = grind (arith, nat_tests)
 
 module _ (s : Scheme) (ks raised : Keys) (formed : WellFormed s) (begun : ks ≡ started (size ks) s.points)
@@ -143,14 +143,14 @@ module _ (s : Scheme) (ks raised : Keys) (formed : WellFormed s) (begun : ks ≡
         absurd (omega (arith, takes.greatest s.inlet greatest_key inlet_outside)))
         (cases_eq s.inlet v)
 
-    pub inlet_held : HoldsKeys s (points_of []) (points_of (s.inlet ∷ [])) after
+    pub inlet_held : HoldsKeys s (among []) (among (s.inlet ∷ [])) after
     inlet_held w =
         ap (λ ks. key_of ks w) takes.leaves
         ∙ ⊎_elim
         (λ (e : w ≡ v).
         rw (eq-eqb s.inlet w (sym inlet_taken ∙ sym e))
         (ap (key_of (set raised v None)) e ∙ get_or-set_same raised v None None (outside_below raised v k takes.outside)
-        ∙ sym (absent (ltb w s.points) (key s (points_of []) w))))
+        ∙ sym (absent (ltb w s.points) (key s (among []) w))))
         (λ (ne : w ≡ v → ⊥).
         let other = ne_eqb s.inlet w (λ e. ne (sym e ∙ sym inlet_taken)) in
         let zero = ap (λ b. 0 + cond b greatest_key 0) other ∙ sym (no_points_no_key s w) in

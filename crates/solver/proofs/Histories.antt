@@ -7,7 +7,7 @@ use Rattle.scheme.specs.declared.faults.CallFault.TheVariants.{Gains}
 use Rattle.scheme.specs.Scheme.{Scheme, with_limit, emptied}
 use Rattle.scheme.specs.Marks.{marked}
 use Rattle.pick.specs.Keys.{Keys}
-use Rattle.flows.specs.Round.{Gainful, gainful}
+use Rattle.flows.specs.RoundsTold.{Gainful, gainful}
 use Rattle.scheme.proofs.Asked.{form_means, book_means}
 use Rattle.scheme.proofs.Searches.{some≢none}
 use Rattle.flows.proofs.Limits.{limits_formed, same_limits_self}

@@ -5,7 +5,7 @@ use Rattle.std.specs.Vec.{with_items}
 use Rattle.scheme.specs.declared.faults.CallFault.{CallFault}
 use Rattle.scheme.specs.Scheme.{Scheme}
 use Rattle.pick.specs.Keys.{Keys}
-use Rattle.flows.specs.Round.{Gainful}
+use Rattle.flows.specs.RoundsTold.{Gainful}
 use Rattle.solver.specs.declared.answers.Rounded.{Rounded}
 use Rattle.solver.specs.declared.answers.Settled.{Settled}
 use Rattle.solver.specs.declared.asks.Ask.{Ask}

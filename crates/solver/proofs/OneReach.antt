@@ -3,7 +3,7 @@ use Rattle.std.proofs.Common.{◌≡◌, ℕ, ◌+◌, ◌-◌, ◌^◌, ◌<◌
 use Rattle.std.proofs.lemmas.List.{get_or_default, set-get_or}
 use Rattle.std.proofs.lemmas.Bool.{cond-true, cond-false, and_parts, eqb-true, eq-eqb}
 use Rattle.scheme.specs.declared.rows.Reach.{Reach}
-use Rattle.scheme.specs.Bounds.{noPoint}
+use Rattle.scheme.specs.Bounds.{no_point}
 use Rattle.scheme.specs.Flow.{Points}
 use Rattle.scheme.specs.Questions.{Joined}
 use Rattle.scheme.specs.Scheme.{Scheme, no_reach, over, flowing, with_flow}
@@ -17,7 +17,7 @@ pub earlier_read :
     (place : List ℕ) (end v u i j : ℕ) → v < length place → u < length place → end ≡ v → i ≡ u → j ≡ v
     → ltb (get_or place i 0) (get_or place j 0) ≡ (eqb end v && earlier place v u)
 earlier_read place end v u i j inside there here at-u at-v =
-    rw (eq-eqb end v here, at-u, at-v, get_or_default place u 0 noPoint there, get_or_default place v 0 noPoint inside) refl
+    rw (eq-eqb end v here, at-u, at-v, get_or_default place u 0 no_point there, get_or_default place v 0 no_point inside) refl
 
 pub pushed_none :
     (x : Points) (v : ℕ) (r : Reach) (needs : Needs) → (eqb r.head v && x r.tail) ≡ false

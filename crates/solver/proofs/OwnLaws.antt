@@ -8,20 +8,21 @@ use Rattle.std.proofs.lemmas.Bool.{cases_eq, leb-true, ltb-true}
 use Rattle.scheme.specs.declared.faults.CallFault.{CallFault}
 use Rattle.scheme.specs.declared.faults.CallFault.TheVariants.{Gains}
 use Rattle.scheme.specs.declared.faults.Layer.TheVariants.{Call}
-use Rattle.scheme.specs.Bounds.{greatestLimit}
-use Rattle.scheme.specs.Refusals.{refusalAt}
+use Rattle.scheme.specs.Bounds.{greatest_limit}
+use Rattle.scheme.specs.Refusals.{refused}
 use Rattle.scheme.specs.Scheme.{Scheme, no_reach, with_limit, emptied}
-use Rattle.scheme.specs.Flow.{Points, Lawful, Greatest, Gap, capacity, leaves, points_of}
+use Rattle.scheme.specs.Flow.{Points, Lawful, Greatest, Gap, capacity, leaves, among}
 use Rattle.scheme.specs.Marks.{marked}
 use Rattle.scheme.specs.Questions.{Question, first_no, book_questions, Joined, WellFormed}
 use Rattle.pick.specs.Keys.{Keys}
 use Rattle.pick.specs.Calls.{ask_start}
 use Rattle.flows.specs.OrderingLaws.{LeastSide}
-use Rattle.flows.specs.Round.{Gainful, gainful, Rounds}
-use Rattle.flows.specs.Round.Rounds.{none, more}
+use Rattle.flows.specs.RoundsTold.{Gainful, gainful, RoundsTold}
+use Rattle.flows.specs.RoundsTold.RoundsTold.{none, more}
 use Rattle.flows.specs.RoundLaws.{RoundLeaves, GainsWithTheGap, Chain}
 use Rattle.scheme.proofs.Asked.{form_means, book_means}
 use Rattle.scheme.proofs.SumLaws.{sum_by_same}
+use Rattle.flows.proofs.Told.{counted}
 use Rattle.flows.proofs.Chains.{chains_bounded, one_gap}
 use Rattle.flows.proofs.Ends.{no_gain_least_side}
 use Rattle.flows.proofs.Gaps.{gains_while_gap, round_raises, rounds_close}
@@ -55,7 +56,7 @@ pub record Limitable (s : Scheme) (k x : ℕ) : Type 0 where
   pub formed : WellFormed s
   pub lawful : Lawful s
   pub within : k < length s.reaches
-  pub small : x ≤ greatestLimit
+  pub small : x ≤ greatest_limit
   pub room : (get_or s.reaches k no_reach).flow ≤ x
 
 pub asked_limit : (s : Scheme) (k x : ℕ) → AllYes (limit_questions s k x) → Limitable s k x
@@ -70,12 +71,12 @@ asked_limit s k x asked =
       lawful = book.1;
       within =
           ltb-true k (length s.reaches)
-          (yes_one (ltb k (length s.reaches)) (refusalAt Call 11 0)
+          (yes_one (ltb k (length s.reaches)) (refused Call 11 0)
           (yes_front (ask_reach s k ∷ []) (limit_asked x ∷ ask_flow s k x ∷ []) reach));
       small =
-          leb-true x greatestLimit
-          (yes_one (leb x greatestLimit) (refusalAt Call 12 0) (yes_front (limit_asked x ∷ []) (ask_flow s k x ∷ []) limit));
-      room = leb-true old x (yes_one (leb old x) (refusalAt Call 13 0) flow);
+          leb-true x greatest_limit
+          (yes_one (leb x greatest_limit) (refused Call 12 0) (yes_front (limit_asked x ∷ []) (ask_flow s k x ∷ []) limit));
+      room = leb-true old x (yes_one (leb old x) (refused Call 13 0) flow);
     }
 
 -- ---- open and limit
@@ -125,7 +126,7 @@ module _ {s t : Scheme} {w v : Work} {ks ls : Keys} {gain count : ℕ} (made : R
 
 -- every round of a chain closes its part
 pub chain_closes :
-    {s t : Scheme} {rounds : List Gainful} → WellFormed s → Lawful s → Rounds s rounds t → AllByRecursion Closes rounds
+    {s t : Scheme} {rounds : List Gainful} → WellFormed s → Lawful s → RoundsTold s rounds t → AllByRecursion Closes rounds
 chain_closes formed lawful none = tt
 chain_closes {s} formed lawful (more {t = t} {order = order} {keys = keys} {gain = gain} round some rest) =
     let leaves = round_raises s t order keys gain formed lawful round in (
@@ -137,9 +138,9 @@ module _
     {s t : Scheme} {w v : Work} {ks ls : Keys} {rounds : List Gainful} {z : ℤ} {count : ℕ}
     (made : SettleMade s w ks rounds z count t v ls)
   where
-    pub settle_chain : Chain s t rounds
+    pub settle_chain : Chain s t (length rounds)
     settle_chain =
-        let book = asked_round s w ks made.asked in chains_bounded s t rounds book.0 book.1 made.works.run.chain
+        let book = asked_round s w ks made.asked in chains_bounded s t (length rounds) book.0 book.1 (counted made.works.run.chain)
 
     pub settle_lawful : LawfulWith s t
     settle_lawful =
@@ -162,13 +163,13 @@ module _
 
 -- the marks that are written tell which points the order has
 pub marks_tell :
-    (s : Scheme) (order rest : List ℕ) (v : ℕ) → v < s.points → marked (marks_of s order ++ rest) v ≡ points_of order v
+    (s : Scheme) (order rest : List ℕ) (v : ℕ) → v < s.points → marked (marks_of s order ++ rest) v ≡ among order v
 marks_tell s order rest v point =
-    let mark : ℕ → ℕ = λ u. cond (points_of order u) 1 0 in
+    let mark : ℕ → ℕ = λ u. cond (among order u) 1 0 in
     let long : length (marks_of s order) ≡ s.points = length-map-range_with_len mark 0 s.points in
     let front = get_or_append_left (marks_of s order) rest 0 v (omega arith) in
     let here = get_or-map-range_with_len mark 0 s.points v v 0 point (omega arith) in
-    ap (λ m. eqb m 1) (front ∙ here) ∙ bit (points_of order v)
+    ap (λ m. eqb m 1) (front ∙ here) ∙ bit (among order v)
   where
     bit : (b : Bool) → eqb (cond b 1 0) 1 ≡ b
     bit true = refl
@@ -185,7 +186,7 @@ capacity_same s x y formed same =
 -- the least cut is that of any marks that agree with the order
 least_cut :
     (s : Scheme) (order : List ℕ) (x : Points) (c : ℕ) → WellFormed s → Lawful s → LeastSide s order
-    → ((v : ℕ) → v < s.points → x v ≡ points_of order v) → c ≡ capacity s (points_of order) → LeastCut s x c
+    → ((v : ℕ) → v < s.points → x v ≡ among order v) → c ≡ capacity s (among order) → LeastCut s x c
 least_cut s order x c formed lawful least same told =
     record {
       lawful = lawful;
@@ -194,7 +195,7 @@ least_cut s order x c formed lawful least same told =
             holds = same s.inlet formed.inlet_point ∙ least.side.holds;
             lacks = same s.outlet formed.outlet_point ∙ least.side.lacks;
           };
-      told = told ∙ sym (capacity_same s x (points_of order) formed same);
+      told = told ∙ sym (capacity_same s x (among order) formed same);
       meets = least.meets ∙ ap pos (sym told);
       greatest = subst (Greatest s) (least.meets ∙ ap pos (sym told)) least.greatest;
       least = λ y side equal v point inside. least.least y side (equal ∙ told) v (sym (same v point) ∙ inside);

@@ -4,14 +4,14 @@ use mathlib.Core.Path.{fun_ext}
 use Rattle.std.proofs.lemmas.List.FromFn.{get_or-map-range_with_len, length-map-range_with_len}
 use Rattle.std.proofs.lemmas.List.{get_or_past, take_all, take_more}
 use Rattle.std.proofs.lemmas.Bool.{cases_Bool, cases_lt, cond-true, cond-false, ltb-true, ltb-false, lt-ltb, le-ltb, or_left}
-use Rattle.scheme.specs.Bounds.{noPoint}
-use Rattle.scheme.specs.Flow.{points_of}
+use Rattle.scheme.specs.Bounds.{no_point}
+use Rattle.scheme.specs.Flow.{among}
 use Rattle.scheme.specs.Scheme.{Scheme}
 use Rattle.flows.proofs.Orders.{among_last}
 use Rattle.solver.specs.PushSteps.{earlier}
 use Rattle.solver.specs.Work.{position, places}
 
-position_from : (ws : List ℕ) (k u : ℕ) → k + length ws ≤ noPoint → k ≤ position k ws u
+position_from : (ws : List ℕ) (k u : ℕ) → k + length ws ≤ no_point → k ≤ position k ws u
 position_from [] k u room = omega arith
 position_from (w ∷ ws) k u room =
     ⊎_elim (λ hit. rw (cond-true (eqb w u) k (position (k + 1) ws u) hit) (omega arith))
@@ -20,9 +20,9 @@ position_from (w ∷ ws) k u room =
 
 -- the first i points are those with a position below i
 position_below :
-    (ws : List ℕ) (k i j u : ℕ) → k + i ≡ j → k + length ws ≤ noPoint → i ≤ length ws
-    → ltb (position k ws u) j ≡ points_of (take i ws) u
-position_below [] k zero j u far room within = le-ltb noPoint j (omega arith)
+    (ws : List ℕ) (k i j u : ℕ) → k + i ≡ j → k + length ws ≤ no_point → i ≤ length ws
+    → ltb (position k ws u) j ≡ among (take i ws) u
+position_below [] k zero j u far room within = le-ltb no_point j (omega arith)
 position_below [] k (suc i) j u far room within = absurd (omega arith)
 position_below (w ∷ ws) k zero j u far room within =
     le-ltb (position k (w ∷ ws) u) j (omega (arith, position_from (w ∷ ws) k u room))
@@ -30,51 +30,51 @@ position_below (w ∷ ws) k (suc i) j u far room within =
     ⊎_elim
     (λ hit.
     ap (λ n. ltb n j) (cond-true (eqb w u) k (position (k + 1) ws u) hit) ∙ lt-ltb k j (omega arith)
-    ∙ sym (or_left (eqb w u) (points_of (take i ws) u) hit))
+    ∙ sym (or_left (eqb w u) (among (take i ws) u) hit))
     (λ miss.
     ap (λ n. ltb n j) (cond-false (eqb w u) k (position (k + 1) ws u) miss)
     ∙ position_below ws (k + 1) i j u (omega arith) (omega arith) (omega arith)
-    ∙ sym (ap (λ b. b || points_of (take i ws) u) miss))
+    ∙ sym (ap (λ b. b || among (take i ws) u) miss))
     (cases_Bool (eqb w u))
 
-module _ (order : List ℕ) (i : ℕ) (short : length order ≤ noPoint) (within : i < length order) where
+module _ (order : List ℕ) (i : ℕ) (short : length order ≤ no_point) (within : i < length order) where
   -- a point that comes once has the position at which it stands
-  position_at : points_of (take i order) (get_or order i 0) ≡ false → position 0 order (get_or order i 0) ≡ i
+  position_at : among (take i order) (get_or order i 0) ≡ false → position 0 order (get_or order i 0) ≡ i
   position_at once =
       let v = get_or order i 0 in
       let low = ltb-false (position 0 order v) i (position_below order 0 i i v (omega arith) (omega arith) (omega arith) ∙ once) in
-      let last = ap (λ ws. points_of ws v) (take_more order i 0 within) ∙ among_last (take i order) v in
+      let last = ap (λ ws. among ws v) (take_more order i 0 within) ∙ among_last (take i order) v in
       let high = ltb-true (position 0 order v) (i + 1) (position_below order 0 (i + 1) (i + 1) v (omega arith) (omega arith) (omega arith) ∙ last) in
       omega arith
 
-  stranger : (u : ℕ) → points_of order u ≡ false → points_of (take i order) u ≡ false
+  stranger : (u : ℕ) → among order u ≡ false → among (take i order) u ≡ false
   stranger u far =
-      let whole = ap (λ ws. points_of ws u) (take_all (length order) order (omega arith)) in
+      let whole = ap (λ ws. among ws u) (take_all (length order) order (omega arith)) in
       let high = ltb-false (position 0 order u) (length order) (position_below order 0 (length order) (length order) u (omega arith) (omega arith) (omega arith) ∙ whole ∙ far) in
       sym (position_below order 0 i i u (omega arith) (omega arith) (omega arith)) ∙ le-ltb (position 0 order u) i (omega arith)
 
   pub earlier_points :
-      (s : Scheme) → ((u : ℕ) → points_of order u ≡ true → u < s.points) → get_or order i 0 < s.points
-      → points_of (take i order) (get_or order i 0) ≡ false → earlier (places s order) (get_or order i 0) ≡ points_of (take i order)
+      (s : Scheme) → ((u : ℕ) → among order u ≡ true → u < s.points) → get_or order i 0 < s.points
+      → among (take i order) (get_or order i 0) ≡ false → earlier (places s order) (get_or order i 0) ≡ among (take i order)
   earlier_points s points inside once = fun_ext at
     where
-      placed : (u : ℕ) → u < s.points → get_or (places s order) u noPoint ≡ position 0 order u
-      placed u l = get_or-map-range_with_len (position 0 order) 0 s.points u u noPoint l (omega arith)
+      placed : (u : ℕ) → u < s.points → get_or (places s order) u no_point ≡ position 0 order u
+      placed u l = get_or-map-range_with_len (position 0 order) 0 s.points u u no_point l (omega arith)
 
-      here : get_or (places s order) (get_or order i 0) noPoint ≡ i
+      here : get_or (places s order) (get_or order i 0) no_point ≡ i
       here = placed (get_or order i 0) inside ∙ position_at once
 
-      outside : (u : ℕ) → s.points ≤ u → points_of order u ≡ false
-      outside u past = ⊎_elim (λ among. absurd (omega (arith, points u among))) (λ far. far) (cases_Bool (points_of order u))
+      outside : (u : ℕ) → s.points ≤ u → among order u ≡ false
+      outside u past = ⊎_elim (λ among. absurd (omega (arith, points u among))) (λ far. far) (cases_Bool (among order u))
 
-      at : (u : ℕ) → earlier (places s order) (get_or order i 0) u ≡ points_of (take i order) u
+      at : (u : ℕ) → earlier (places s order) (get_or order i 0) u ≡ among (take i order) u
       at u =
-          ap (ltb (get_or (places s order) u noPoint)) here
+          ap (ltb (get_or (places s order) u no_point)) here
           ∙ ⊎_elim
           (λ (l : u < s.points).
           ap (λ n. ltb n i) (placed u l) ∙ position_below order 0 i i u (omega arith) (omega arith) (omega arith))
           (λ (past : s.points ≤ u).
           let long = length-map-range_with_len (position 0 order) 0 s.points in
-          ap (λ n. ltb n i) (get_or_past (places s order) u noPoint (omega (arith, long)))
-          ∙ le-ltb noPoint i (omega arith) ∙ sym (stranger u (outside u past)))
+          ap (λ n. ltb n i) (get_or_past (places s order) u no_point (omega (arith, long)))
+          ∙ le-ltb no_point i (omega arith) ∙ sym (stranger u (outside u past)))
           (cases_lt u s.points)

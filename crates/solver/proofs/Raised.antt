@@ -6,7 +6,7 @@ use Rattle.std.proofs.lemmas.List.Sums.{fold_more}
 use Rattle.std.proofs.lemmas.Bool.{cases_eq, eq-eqb, ne_eqb}
 use Rattle.std.proofs.lemmas.Bool.Decides.{nat_tests}
 use Rattle.scheme.specs.declared.rows.Reach.{Reach}
-use Rattle.scheme.specs.Bounds.{greatest_key}
+use Rattle.pick.specs.Calls.{greatest_key}
 use Rattle.scheme.specs.Scheme.{no_reach}
 use Rattle.scheme.specs.Flow.{left_on, left_back}
 use Rattle.pick.specs.Keys.{Keys, key_of, Outside}

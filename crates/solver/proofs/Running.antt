@@ -5,15 +5,17 @@ use Rattle.std.proofs.ByRecursion.{All-weaker, sum_by_le}
 use Rattle.std.proofs.lemmas.Bool.{eq-eqb}
 use Rattle.scheme.specs.declared.rows.Reach.{Reach}
 use Rattle.scheme.specs.Crossings.{enters, left_across, left_out}
-use Rattle.scheme.specs.Flow.{Points, Side, Lawful, leaves, left_on, left_back, points_of}
+use Rattle.scheme.specs.Flow.{Points, Side, Lawful, leaves, left_on, left_back, among}
 use Rattle.scheme.specs.Questions.{Joined, WellFormed}
 use Rattle.scheme.specs.Scheme.{Scheme}
 use Rattle.scheme.proofs.SumLaws.{all_both}
 use Rattle.flows.specs.Ordering.{Made}
 use Rattle.flows.specs.Push.{push}
-use Rattle.flows.specs.Round.{Round, Gainful, gainful, Rounds, SettledRun}
-use Rattle.flows.specs.Round.Rounds.{none, more}
+use Rattle.flows.specs.Round.{Round}
+use Rattle.flows.specs.RoundsTold.{Gainful, gainful, RoundsTold, SettledRun}
+use Rattle.flows.specs.RoundsTold.RoundsTold.{none, more}
 use Rattle.flows.specs.RoundLaws.{Chain}
+use Rattle.flows.proofs.Told.{counted}
 use Rattle.flows.proofs.Chains.{chains_bounded, gained_within_side, inlet_side}
 use Rattle.flows.proofs.Gaps.{round_raises}
 use Rattle.flows.proofs.Limits.{limits_side}
@@ -25,8 +27,8 @@ use Rattle.solver.proofs.Written.{written_over}
 -- ---- one round more at the end of a chain
 
 pub chain_then :
-    {s t u : Scheme} {rounds : List Gainful} {order keys : List ℕ} {gain : ℕ} → Rounds s rounds t → Round t order keys gain u
-    → 0 < gain → Rounds s (rounds ++ gainful t order gain u ∷ []) u
+    {s t u : Scheme} {rounds : List Gainful} {order keys : List ℕ} {gain : ℕ} → RoundsTold s rounds t → Round t order keys gain u
+    → 0 < gain → RoundsTold s (rounds ++ gainful t order gain u ∷ []) u
 chain_then none round some = more round some none
 chain_then (more first gains rest) round some = more first gains (chain_then rest round some)
 
@@ -53,7 +55,7 @@ left_bounded s x formed lawful =
 
 pub record Running (s : Scheme) (w : Work) (count : ℕ) (t : Scheme) (v : Work) : Type 0 where
   pub rounds : List Gainful
-  pub chain : Rounds s rounds t
+  pub chain : RoundsTold s rounds t
   pub counted : count ≡ length rounds
   pub orders : v.order ≡ after_orders rounds w.order
   -- places and needs are written over by every round
@@ -82,8 +84,8 @@ at_start s w =
 module _
     {s t : Scheme} {w v : Work} {count : ℕ} (formed : WellFormed s) (lawful : Lawful s) (run : Running s w count t v)
   where
-    pub so_far : Chain s t run.rounds
-    so_far = chains_bounded s t run.rounds formed lawful run.chain
+    pub so_far : Chain s t (length run.rounds)
+    so_far = chains_bounded s t (length run.rounds) formed lawful (counted run.chain)
 
     pub same_points : t.points ≡ s.points
     same_points = ap (λ (u : Scheme). u.points) so_far.limits.relaid
@@ -92,7 +94,7 @@ module _
     pub countable : count ≤ 16384000000
     countable =
         let side = inlet_side s formed in
-        omega (arith, run.counted, so_far.within_side (points_of (s.inlet ∷ [])) side, left_bounded s (points_of (s.inlet ∷ [])) formed lawful, formed.few_reaches)
+        omega (arith, run.counted, so_far.within_side (among (s.inlet ∷ [])) side, left_bounded s (among (s.inlet ∷ [])) formed lawful, formed.few_reaches)
 
     module _ {gain length' : ℕ} {u : Scheme} {x : Work} (works : RoundWorks t v gain length' u x) where
       order_after : x.order ≡ written works.order (after_orders run.rounds w.order)
@@ -134,9 +136,9 @@ module _
 
       -- with a gain less is left out of the inlet
       pub less_left :
-          0 < gain → left_out u (points_of (s.inlet ∷ [])) < left_out t (points_of (s.inlet ∷ []))
+          0 < gain → left_out u (among (s.inlet ∷ [])) < left_out t (among (s.inlet ∷ []))
       less_left some =
-          let inlet = points_of (s.inlet ∷ []) in
+          let inlet = among (s.inlet ∷ []) in
           let leaves = round_raises t u works.order works.keys gain so_far.formed so_far.lawful works.round in
           let side = limits_side s t so_far.limits inlet (inlet_side s formed) in
           omega (arith, gained_within_side t u inlet gain so_far.formed so_far.lawful side leaves.limits leaves.lawful leaves.raised)

@@ -6,7 +6,7 @@ use Rattle.std.proofs.lemmas.List.FromFn.{fill_by_all, length-map-range_with_len
 use Rattle.std.proofs.lemmas.List.{length-reverse, length-take-le, reverse-append, take_all, take_more}
 use Rattle.std.proofs.lemmas.Bool.{cases_eq, cond-true, cond-false, eq-eqb, ne_eqb}
 use Rattle.scheme.specs.declared.rows.Reach.{Reach}
-use Rattle.scheme.specs.Flow.{Points, Lawful, points_of}
+use Rattle.scheme.specs.Flow.{Points, Lawful, among}
 use Rattle.scheme.specs.Questions.{WellFormed}
 use Rattle.scheme.specs.Scheme.{Scheme, over}
 use Rattle.scheme.proofs.Relaid.{Alike, formed_alike}
@@ -28,17 +28,17 @@ use Rattle.solver.proofs.PlaceTables.{earlier_points}
 stage_on :
     {s : Scheme} {order : List ℕ} {gain : ℕ} (v : ℕ) (todo : List ℕ) (rs : List Reach) (needs : Needs) → 0 < length todo
     → Stage s order gain (v ∷ todo) rs needs
-    → Stage s order gain todo (pushed_all (points_of todo) v rs needs).0 (pushed_all (points_of todo) v rs needs).1
+    → Stage s order gain todo (pushed_all (among todo) v rs needs).0 (pushed_all (among todo) v rs needs).1
 stage_on v [] rs needs more stage = absurd (omega arith)
 stage_on v (w ∷ ws) rs needs more stage = goes_on stage
 
 -- what a stage says of the point v that asks next, with others still to come
 record Asking (s : Scheme) (gain v : ℕ) (todo : List ℕ) (rs : List Reach) (needs : Needs) : Type 0 where
   inside : v < s.points
-  once : points_of todo v ≡ false
+  once : among todo v ≡ false
   alike : AllZip Alike s.reaches rs
   within : AllByRecursion (λ r. r.flow ≤ r.limit) rs
-  bounded : (count u : ℕ) → u < s.points → (pushed_all (points_of todo) v (take count rs) needs).1 u ≤ gain
+  bounded : (count u : ℕ) → u < s.points → (pushed_all (among todo) v (take count rs) needs).1 u ≤ gain
 
 module _ {s : Scheme} {order keys : List ℕ} {gain : ℕ} (formed : WellFormed s) (lawful : Lawful s) (made : Made s order keys gain) (some : 0 < gain) where
   asking :
@@ -51,7 +51,7 @@ module _ {s : Scheme} {order keys : List ℕ} {gain : ℕ} (formed : WellFormed 
       record {
         inside = ready.0;
         once = ready.1;
-        alike = each_weaker (Touched (points_of (v ∷ (w ∷ ws)))) Alike (λ r t h. h.alike) s.reaches rs standing.1.kept;
+        alike = each_weaker (Touched (among (v ∷ (w ∷ ws)))) Alike (λ r t h. h.alike) s.reaches rs standing.1.kept;
         within = standing.1.within;
         bounded = needs_within s order keys gain formed lawful made some v w ws rs needs stage;
       }
@@ -93,16 +93,16 @@ module _ {s : Scheme} {order place need : List ℕ} {gain : ℕ} (asks : OrderAs
     asker : Asking s gain (get_or order i 0) rest t.reaches (needs_of after)
     asker = asking asks.formed asks.lawful asks.made asks.some (get_or order i 0) rest t.reaches (needs_of after) some_rest staged
 
-    among : points_of rest ≡ points_of (take i order)
+    same_points : among rest ≡ among (take i order)
     unfolding rest
-    among = fun_ext (among_reverse (take i order))
+    same_points = fun_ext (among_reverse (take i order))
 
-    before : earlier place (get_or order i 0) ≡ points_of rest
+    before : earlier place (get_or order i 0) ≡ among rest
     before =
         ap (λ p. earlier p (get_or order i 0)) asks.placed
         ∙ earlier_points order i (omega (arith, fits.short, asks.formed.few_points)) within s fits.points asker.inside
-        (sym (ap (λ (x : ℕ → Bool). x (get_or order i 0)) among) ∙ asker.once)
-        ∙ sym among
+        (sym (ap (λ (x : ℕ → Bool). x (get_or order i 0)) same_points) ∙ asker.once)
+        ∙ sym same_points
 
     pub point_asks : length after ≡ length need → PointAsks t place after (get_or order i 0)
     point_asks long =
@@ -125,7 +125,7 @@ module _ {s : Scheme} {order place need : List ℕ} {gain : ℕ} (asks : OrderAs
     staged_more u later flows needs =
         let v = get_or order i 0 in
         let on = stage_on v rest t.reaches (needs_of after) some_rest staged in
-        let all : pushed_point t place after v ≡ pushed_all (points_of rest) v t.reaches (needs_of after) = ap (λ (x : Points). pushed_all x v t.reaches (needs_of after)) before in
+        let all : pushed_point t place after v ≡ pushed_all (among rest) v t.reaches (needs_of after) = ap (λ (x : Points). pushed_all x v t.reaches (needs_of after)) before in
         let reaches = ap (λ (w : Scheme). w.reaches) flows ∙ ap (λ (p : List Reach × Needs). p.0) all in
         let asked = needs ∙ ap (λ (p : List Reach × Needs). p.1) all in
         record {
@@ -133,7 +133,7 @@ module _ {s : Scheme} {order place need : List ℕ} {gain : ℕ} (asks : OrderAs
           same = flows ∙ ap (λ (w : Scheme). over w (pushed_point t place after (get_or order i 0)).0) now.same ∙ ap (λ (w : Scheme). over s w.reaches) (sym flows);
           stage =
               subst (λ (f : Needs). Stage s order gain rest u.reaches f) (sym asked)
-              (subst (λ rs. Stage s order gain rest rs (pushed_all (points_of rest) v t.reaches (needs_of after)).1) (sym reaches) on);
+              (subst (λ rs. Stage s order gain rest rs (pushed_all (among rest) v t.reaches (needs_of after)).1) (sym reaches) on);
         }
 
   -- only the inlet is left

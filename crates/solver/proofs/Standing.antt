@@ -5,7 +5,7 @@ use Rattle.std.proofs.ByRecursion.{All-get_or, All-map, All-set, All-weaker}
 use Rattle.std.proofs.lemmas.List.{get_or_default, length-map, length-set}
 use Rattle.std.proofs.lemmas.List.Sums.{sum_by-set}
 use Rattle.scheme.specs.declared.rows.Reach.{Reach}
-use Rattle.scheme.specs.Bounds.{greatestLimit}
+use Rattle.scheme.specs.Bounds.{greatest_limit}
 use Rattle.scheme.specs.Scheme.{Scheme, no_reach, limited, flowing, over, with_limit, flows_over, with_flows, emptied}
 use Rattle.scheme.specs.Flow.{Lawful}
 use Rattle.scheme.specs.Questions.{Joined, WellFormed}
@@ -85,7 +85,7 @@ module _ (s : Scheme) (k x : ℕ) (within : k < length s.reaches) where
       let read = get_or_default s.reaches k no_reach old within in
       ap (over s) (changed_at (limited x) s.reaches k old within read)
 
-  limit_formed : x ≤ greatestLimit → WellFormed s → WellFormed (with_limit s k x)
+  limit_formed : x ≤ greatest_limit → WellFormed s → WellFormed (with_limit s k x)
   limit_formed small w =
       let was = All-get_or (Joined s) s.reaches k no_reach within w.joined in
       let new : Joined s (limited x old) =
@@ -154,7 +154,7 @@ limit_under limits s k x within same =
     }
 
 pub stands_limited :
-    (limits s : Scheme) (k x : ℕ) → k < length s.reaches → x ≤ greatestLimit → (get_or s.reaches k no_reach).flow ≤ x
+    (limits s : Scheme) (k x : ℕ) → k < length s.reaches → x ≤ greatest_limit → (get_or s.reaches k no_reach).flow ≤ x
     → Stands limits s → Stands (with_limit limits k x) (with_limit s k x)
 stands_limited limits s k x within small room h =
     record {

@@ -6,11 +6,11 @@ use Rattle.scheme.specs.declared.faults.CallFault.TheVariants.{Gains}
 use Rattle.scheme.specs.declared.faults.Layer.{Layer}
 use Rattle.scheme.specs.declared.faults.Layer.TheVariants.{Book, Call, Pick}
 use Rattle.scheme.specs.declared.faults.Refusal.{Refusal}
-use Rattle.scheme.specs.Bounds.{greatestLimit}
+use Rattle.scheme.specs.Bounds.{greatest_limit}
 use Rattle.scheme.specs.Scheme.{Scheme, no_reach}
-use Rattle.scheme.specs.Refusals.{refusalAt, call_refusal}
+use Rattle.scheme.specs.Refusals.{refused, call_refusal}
 use Rattle.scheme.specs.Questions.{Question, or_else, first_no, book_questions}
-use Rattle.scheme.specs.Questions.{shaped, joins, flowFits, steady, first_fail, first_point}
+use Rattle.scheme.specs.Questions.{shaped, joins, carries, steady, first_fail, first_point}
 use Rattle.pick.specs.Keys.{Keys, size}
 use Rattle.pick.specs.Calls.{ask_start}
 use Rattle.scheme.proofs.Searches.{some≢none}
@@ -22,24 +22,24 @@ gains = call_refusal Gains
 -- a question that tells another number leaves it to those after it
 other_number :
     (t : Bool) (l : Layer) (n : ℕ) (later : Question) → (n ≡ 14 → ⊥)
-    → or_else (cond t None (Some (refusalAt l n 0))) later ≡ Some gains → later ≡ Some gains
+    → or_else (cond t None (Some (refused l n 0))) later ≡ Some gains → later ≡ Some gains
 other_number true l n later apart tells = tells
 other_number false l n later apart tells =
-    let same : refusalAt l n 0 ≡ gains = cc in absurd (apart (ap (λ r. r.number) same))
+    let same : refused l n 0 ≡ gains = cc in absurd (apart (ap (λ r. r.number) same))
 
 other_place :
     (o : Option ℕ) (l : Layer) (n : ℕ) (later : Question) → (n ≡ 14 → ⊥)
-    → or_else (option_map (refusalAt l n) o) later ≡ Some gains → later ≡ Some gains
+    → or_else (option_map (refused l n) o) later ≡ Some gains → later ≡ Some gains
 other_place None l n later apart tells = tells
 other_place (Some place) l n later apart tells =
-    let same : refusalAt l n place ≡ gains = cc in absurd (apart (ap (λ r. r.number) same))
+    let same : refused l n place ≡ gains = cc in absurd (apart (ap (λ r. r.number) same))
 
 -- the book's questions leave it to those after them
 book_tells :
     (s : Scheme) (later : List Question) → first_no (book_questions s ++ later) ≡ Some gains → first_no later ≡ Some gains
 book_tells s later tells =
     other_place (first_point (steady s) 0 s.points) Book 9 _ (λ e. omega arith)
-    (other_place (first_fail flowFits 0 s.reaches) Book 8 _ (λ e. omega arith)
+    (other_place (first_fail carries 0 s.reaches) Book 8 _ (λ e. omega arith)
     (other_place (first_fail (joins s) 0 s.reaches) Book 7 _ (λ e. omega arith)
     (other_number (shaped s) Book 6 _ (λ e. omega arith) tells)))
 
@@ -56,7 +56,7 @@ limit_tells s k x tells =
     some≢none
     (sym
     (other_number (leb (get_or s.reaches k no_reach).flow x) Call 13 None (λ e. omega arith)
-    (other_number (leb x greatestLimit) Call 12 _ (λ e. omega arith)
+    (other_number (leb x greatest_limit) Call 12 _ (λ e. omega arith)
     (other_number (ltb k (length s.reaches)) Call 11 _ (λ e. omega arith)
     (book_tells s (ask_reach s k ∷ limit_asked x ∷ ask_flow s k x ∷ []) tells)))))
 

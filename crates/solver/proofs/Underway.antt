@@ -2,14 +2,14 @@
 use Rattle.std.proofs.Common.{◌≡◌, ℕ, ◌+◌, ◌<◌, ◌≤◌, min, false, ◌≢◌, List, [], ◌∷◌, ◌++◌, length, set, None, sym, refl, ap, ◌∙◌, subst, arith}
 use Rattle.std.proofs.lemmas.List.{length_push}
 use Rattle.std.proofs.lemmas.Bool.{ne_eqb}
-use Rattle.scheme.specs.Bounds.{greatest_key}
+use Rattle.pick.specs.Calls.{greatest_key}
 use Rattle.scheme.specs.Scheme.{Scheme}
-use Rattle.scheme.specs.Flow.{Lawful, points_of}
+use Rattle.scheme.specs.Flow.{Lawful, among}
 use Rattle.scheme.specs.Questions.{WellFormed}
 use Rattle.pick.specs.Keys.{Keys, key_of, NoneOutside}
 use Rattle.pick.specs.Calls.{Taken}
-use Rattle.flows.specs.Ordering.{least, Next, SoFar, Made}
-use Rattle.flows.specs.Ordering.SoFar.{first, next}
+use Rattle.flows.specs.Ordering.{least, Next, Taken as SoFar, Made}
+use Rattle.flows.specs.Ordering.Taken.{first, next}
 use Rattle.flows.specs.Ordering.Made.{arrives, stops}
 use Rattle.flows.proofs.Fits.{taken_fits, fewer}
 use Rattle.flows.proofs.Keys.{keys_within}
@@ -25,10 +25,10 @@ pub record Underway (s : Scheme) (o p : List ℕ) (ks : Keys) (last count lowest
   pub front : List ℕ
   pub keys : List ℕ
   pub so_far : SoFar s (front ++ last ∷ []) keys
-  pub new : points_of front last ≡ false
+  pub new : among front last ≡ false
   pub counted : count ≡ length front + 1
   pub lowest_is : lowest ≡ least keys greatest_key
-  pub held : HoldsKeys s (points_of front) (points_of (front ++ last ∷ [])) ks
+  pub held : HoldsKeys s (among front) (among (front ++ last ∷ [])) ks
   pub order_table : o' ≡ written (front ++ last ∷ []) o
   pub place_table : p' ≡ written (places s (front ++ last ∷ [])) p
 
@@ -62,20 +62,20 @@ module _ {s : Scheme} {o p : List ℕ} {ks : Keys} {last count lowest : ℕ} {o'
 
   -- once all keys have grown from the last point
   held_ready :
-      (ready : Keys) → GrownFrom last s.reaches ks ready → HoldsKeys s (points_of order) (points_of order) ready
-  held_ready ready grown = held_grown s way.front last (points_of order) ks way.new way.held ready grown
+      (ready : Keys) → GrownFrom last s.reaches ks ready → HoldsKeys s (among order) (among order) ready
+  held_ready ready grown = held_grown s way.front last (among order) ks way.new way.held ready grown
 
   pub some_outside : (ready : Keys) → WellFormed s → GrownFrom last s.reaches ks ready → NoneOutside ready → ⊥
   some_outside ready formed grown none =
       let lacks = taken_lacks_outlet s formed.apart way.so_far in
       none s.outlet _
-      (untaken_outside s (points_of order) (points_of order) ready (held_ready ready grown) s.outlet (formed.outlet_point, lacks))
+      (untaken_outside s (among order) (among order) ready (held_ready ready grown) s.outlet (formed.outlet_point, lacks))
 
   -- a point is taken then
   module _ (ready after : Keys) (v k : ℕ) (formed : WellFormed s) (grown : GrownFrom last s.reaches ks ready)
       (takes : Taken ready v k after) where
-    pub is_next : Next s (points_of order) v k
-    is_next = next_taken s (points_of order) ready after v k (held_ready ready grown) takes
+    pub is_next : Next s (among order) v k
+    is_next = next_taken s (among order) ready after v k (held_ready ready grown) takes
 
     long : count ≡ length order
     long = way.counted ∙ sym (length_push way.front last)
@@ -119,7 +119,7 @@ module _ {s : Scheme} {o p : List ℕ} {ks : Keys} {last count lowest : ℕ} {o'
             new = is_next.outside.1;
             counted = ap (λ n. n + 1) long;
             lowest_is = lower ∙ least_with;
-            held = held_taken s (points_of order) order ready after v k (held_ready ready grown) takes;
+            held = held_taken s (among order) order ready after v k (held_ready ready grown) takes;
             order_table = order_next;
             place_table = place_next;
           }
@@ -145,7 +145,7 @@ module _ {s : Scheme} {o p : List ℕ} {ks : Keys} {last count lowest : ℕ} {o'
         where
           gained : gain ≡ least way.keys k
           gained =
-              let within = (keys_within s formed lawful).from_any (points_of order) v in
+              let within = (keys_within s formed lawful).from_any (among order) v in
               let most : min greatest_key k ≡ k = omega (arith, is_next.is) in
               lower ∙ ap (λ n. min n k) way.lowest_is ∙ sym (least_min way.keys greatest_key k) ∙ ap (least way.keys) most
 

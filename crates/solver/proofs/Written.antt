@@ -4,9 +4,9 @@ use Rattle.std.specs.List.{range_with_len}
 use Rattle.std.proofs.lemmas.List.FromFn.{length-map-range_with_len, get_or-map-range_with_len, map-range_with_len_more}
 use Rattle.std.proofs.lemmas.List.{length_push, length-set, drop_more, drop-drop, drop_at, set_at, set-append_left, take_at, get_or-set_same, get_or-set_other, ext_get_or}
 use Rattle.std.proofs.lemmas.Bool.{cases_eq, eq-eqb, ne_eqb, or_parts}
-use Rattle.scheme.specs.Bounds.{noPoint}
+use Rattle.scheme.specs.Bounds.{no_point}
 use Rattle.scheme.specs.Scheme.{Scheme}
-use Rattle.scheme.specs.Flow.{points_of}
+use Rattle.scheme.specs.Flow.{among}
 use Rattle.solver.specs.Work.{written, position, places}
 
 -- ---- a table written from its start on
@@ -48,10 +48,10 @@ written_start new old = take_at new (drop (length new) old) (length new) refl
 -- ---- the places
 
 -- a point that comes after the others has the next position
-position_last : (k : ℕ) (ws : List ℕ) (v : ℕ) → points_of ws v ≡ false → position k (ws ++ v ∷ []) v ≡ k + length ws
+position_last : (k : ℕ) (ws : List ℕ) (v : ℕ) → among ws v ≡ false → position k (ws ++ v ∷ []) v ≡ k + length ws
 position_last k [] v out = rw (eq-eqb v v refl) (omega arith)
 position_last k (w ∷ ws) v out =
-    let apart = or_parts (eqb w v) (points_of ws v) out in
+    let apart = or_parts (eqb w v) (among ws v) out in
     let later = position_last (k + 1) ws v apart.1 in
     rw apart.0 (omega arith)
 
@@ -60,7 +60,7 @@ position_kept : (k : ℕ) (ws : List ℕ) (v u : ℕ) → u ≢ v → position k
 position_kept k [] v u ne = rw (ne_eqb v u (λ e. ne (sym e))) refl
 position_kept k (w ∷ ws) v u ne = ap (cond (eqb w u) k) (position_kept (k + 1) ws v u ne)
 
-module _ (s : Scheme) (ws : List ℕ) (v i : ℕ) (is : i ≡ length ws) (below : v < s.points) (out : points_of ws v ≡ false) where
+module _ (s : Scheme) (ws : List ℕ) (v i : ℕ) (is : i ≡ length ws) (below : v < s.points) (out : among ws v ≡ false) where
   places_more : set (places s ws) v i ≡ places s (ws ++ v ∷ [])
   places_more =
       let n = s.points in

@@ -2,7 +2,7 @@
 use Rattle.std.specs.Prelude.{◌≡◌, ℕ, List, Result}
 use Rattle.scheme.specs.declared.faults.CallFault.{CallFault}
 use Rattle.scheme.specs.Scheme.{Scheme}
-use Rattle.flows.specs.Round.{Gainful}
+use Rattle.flows.specs.RoundsTold.{Gainful}
 use Rattle.solver.specs.declared.asks.Call.{Call}
 use Rattle.solver.specs.declared.asks.Answer.{Answer}
 use Rattle.solver.specs.History.{View, Step, DoesCall, Does}

@@ -12,15 +12,16 @@
 use Rattle.std.specs.Prelude.{◌≡◌, ℕ, ◌<◌, Bool, true, cond, ◌&&◌, List, [], ◌∷◌, ◌++◌, length, ℤ, Some, None, Ok, Err, Option, Result, nat_le, nat_lt, slice_index_or}
 use Rattle.scheme.specs.declared.faults.Layer.TheVariants.{Call}
 use Rattle.scheme.specs.declared.faults.CallFault.{CallFault}
-use Rattle.scheme.specs.Bounds.{greatestLimit}
-use Rattle.scheme.specs.Refusals.{refusalAt, call_refusal}
+use Rattle.scheme.specs.Bounds.{greatest_limit}
+use Rattle.scheme.specs.Refusals.{refused, call_refusal}
 use Rattle.scheme.specs.Scheme.{Scheme, no_reach, with_limit, emptied}
-use Rattle.scheme.specs.Flow.{value, capacity, points_of}
+use Rattle.scheme.specs.Flow.{value, capacity, among}
 use Rattle.scheme.specs.Questions.{Question, first_no, form_questions, book_questions}
 use Rattle.pick.specs.Keys.{Keys, size}
 use Rattle.pick.specs.Calls.{ask_start}
 use Rattle.flows.specs.Ordering.{Made}
-use Rattle.flows.specs.Round.{Round, Gainful, SettledRun}
+use Rattle.flows.specs.Round.{Round}
+use Rattle.flows.specs.RoundsTold.{Gainful, SettledRun}
 use Rattle.solver.specs.declared.answers.Opened.{Opened}
 use Rattle.solver.specs.declared.answers.Rounded.{Rounded}
 use Rattle.solver.specs.declared.answers.Settled.{Settled}
@@ -44,7 +45,7 @@ abbrev pub lengths_of : Work → List ℕ
 lengths_of w = length w.order ∷ length w.place ∷ length w.need ∷ []
 
 abbrev pub ask_tables : Bool → Question
-ask_tables hold = cond hold None (Some (refusalAt Call 10 0))
+ask_tables hold = cond hold None (Some (refused Call 10 0))
 
 -- what is asked before an ordering, where `hold` tells whether all tables hold n entries: of the book, of the tables,
 -- and of the pick
@@ -61,13 +62,13 @@ cut_questions s w marks ks = ordering_questions s (hold_all s.points (length mar
 
 -- Is the reach there? Is the new limit allowed? Is it at least the flow?
 abbrev pub ask_reach : Scheme → ℕ → Question
-ask_reach s k = cond (nat_lt k (length s.reaches)) None (Some (refusalAt Call 11 0))
+ask_reach s k = cond (nat_lt k (length s.reaches)) None (Some (refused Call 11 0))
 
 abbrev pub limit_asked : ℕ → Question
-limit_asked x = cond (nat_le x greatestLimit) None (Some (refusalAt Call 12 0))
+limit_asked x = cond (nat_le x greatest_limit) None (Some (refused Call 12 0))
 
 abbrev pub ask_flow : Scheme → ℕ → ℕ → Question
-ask_flow s k x = cond (nat_le (slice_index_or s.reaches k no_reach).flow x) None (Some (refusalAt Call 13 0))
+ask_flow s k x = cond (nat_le (slice_index_or s.reaches k no_reach).flow x) None (Some (refused Call 13 0))
 
 abbrev pub limit_questions : Scheme → ℕ → ℕ → List Question
 limit_questions s k x = book_questions s ++ (ask_reach s k ∷ limit_asked x ∷ ask_flow s k x ∷ [])
@@ -154,7 +155,7 @@ pub record CutMade (s : Scheme) (w : Work) (ks : Keys) (marks : List ℕ) (c : �
   pub order : List ℕ
   pub ordered : CutOrders s w marks ks order 0 v ls
   pub marks_are : after ≡ written (marks_of s order) marks
-  pub capacity_is : c ≡ capacity s (points_of order)
+  pub capacity_is : c ≡ capacity s (among order)
 
 -- with a gain it refuses, and marks nothing
 pub record CutGains (s : Scheme) (w : Work) (ks : Keys) (marks : List ℕ) (fault : CallFault) (v : Work) (ls : Keys) (after : List ℕ) : Type 0 where
@@ -163,7 +164,7 @@ pub record CutGains (s : Scheme) (w : Work) (ks : Keys) (marks : List ℕ) (faul
   pub gain : ℕ
   pub ordered : CutOrders s w marks ks order gain v ls
   pub gains : 0 < gain
-  pub told : call_refusal fault ≡ refusalAt Call 14 0
+  pub told : call_refusal fault ≡ refused Call 14 0
   pub marks_stay : after ≡ marks
 
 -- a refusal before the ordering leaves all as it was; the one after it leaves the ordering

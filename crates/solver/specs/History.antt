@@ -6,7 +6,7 @@ use Rattle.scheme.specs.declared.faults.CallFault.TheVariants.{Gains}
 use Rattle.scheme.specs.Scheme.{Scheme, with_limit, emptied}
 use Rattle.scheme.specs.Marks.{marked}
 use Rattle.pick.specs.Keys.{Keys}
-use Rattle.flows.specs.Round.{Gainful, gainful}
+use Rattle.flows.specs.RoundsTold.{Gainful, gainful}
 use Rattle.solver.specs.declared.answers.Opened.{Opened}
 use Rattle.solver.specs.declared.answers.Rounded.{Rounded}
 use Rattle.solver.specs.declared.answers.Settled.{Settled}

@@ -4,7 +4,7 @@ use Rattle.std.specs.List.{AllByRecursion}
 use Rattle.scheme.specs.Scheme.{Scheme}
 use Rattle.scheme.specs.Flow.{Points, Lawful, Side, Greatest, Gap, value, capacity}
 use Rattle.flows.specs.PushLaws.{SameLimits}
-use Rattle.flows.specs.Round.{Gainful}
+use Rattle.flows.specs.RoundsTold.{Gainful}
 use Rattle.flows.specs.RoundLaws.{OneGap, GainsWithTheGap}
 
 -- A lawful flow under these limits. It has exactly one gap, so that what is said of gaps is said of something.

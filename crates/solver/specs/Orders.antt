@@ -1,7 +1,7 @@
 -- What making an ordering leaves in the tables.
 use Rattle.std.specs.Prelude.{◌≡◌, ℕ, List, [], ◌∷◌, length}
 use Rattle.scheme.specs.Scheme.{Scheme}
-use Rattle.scheme.specs.Flow.{points_of}
+use Rattle.scheme.specs.Flow.{among}
 use Rattle.pick.specs.Keys.{Keys}
 use Rattle.flows.specs.Ordering.{Made}
 use Rattle.solver.specs.Raises.{HoldsKeys}
@@ -21,4 +21,4 @@ pub record OrderingMade (s : Scheme) (o p : List ℕ) (gain count : ℕ) (o' p' 
 pub record OrderBegun (s : Scheme) (o p : List ℕ) (ks : Keys) : Type 0 where
   pub order_table : o ≡ written (s.inlet ∷ []) o
   pub place_table : p ≡ written (places s (s.inlet ∷ [])) p
-  pub held : HoldsKeys s (points_of []) (points_of (s.inlet ∷ [])) ks
+  pub held : HoldsKeys s (among []) (among (s.inlet ∷ [])) ks

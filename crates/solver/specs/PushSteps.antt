@@ -2,7 +2,7 @@
 use Rattle.std.specs.Prelude.{◌≡◌, ℕ, ◌^◌, ◌<◌, ◌≤◌, List, length, get_or, take, nat_lt, slice_index, slice_index_or}
 use Rattle.std.specs.List.{AllByRecursion}
 use Rattle.scheme.specs.declared.rows.Reach.{Reach}
-use Rattle.scheme.specs.Bounds.{noPoint}
+use Rattle.scheme.specs.Bounds.{no_point}
 use Rattle.scheme.specs.Flow.{Points, Lawful}
 use Rattle.scheme.specs.Questions.{WellFormed, Joined}
 use Rattle.scheme.specs.Scheme.{Scheme, no_reach}
@@ -16,7 +16,7 @@ needs_of need w = slice_index need w
 
 -- the points whose place in the order is before that of v, by the table of places
 abbrev pub earlier : List ℕ → ℕ → Points
-earlier place v u = nat_lt (slice_index_or place u noPoint) (slice_index_or place v noPoint)
+earlier place v u = nat_lt (slice_index_or place u no_point) (slice_index_or place v no_point)
 
 -- the point v asks along the reach k
 abbrev pub pushed_at : Scheme → List ℕ → List ℕ → ℕ → ℕ → Reach × Needs

@@ -2,7 +2,7 @@
 use Rattle.std.specs.Prelude.{◌≡◌, ℕ, ◌≤◌, cond, not, ◌&&◌, List, take, Some, None, ◌==◌, nat_lt}
 use Rattle.std.specs.Option.{option_map}
 use Rattle.scheme.specs.declared.rows.Reach.{Reach}
-use Rattle.scheme.specs.Bounds.{greatest_key}
+use Rattle.pick.specs.Calls.{greatest_key}
 use Rattle.scheme.specs.Scheme.{Scheme}
 use Rattle.scheme.specs.Flow.{Points, left_on, left_back}
 use Rattle.pick.specs.Keys.{Keys, key_of, Outside}

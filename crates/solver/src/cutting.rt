@@ -2,7 +2,7 @@
 ghost use Rattle.std.specs.Prelude.{◌≡◌, ◌≤◌, [], ◌∷◌, map, length, IfOk, if◌then◌else◌, Err, nat_eq, slice_index};
 ghost use Rattle.std.specs.List.{range_with_len};
 ghost use Rattle.scheme.specs.declared.faults.CallFault.TheVariants.{Gains};
-ghost use Rattle.scheme.specs.Bounds.{noPoint};
+ghost use Rattle.scheme.specs.Bounds.{no_point};
 ghost use Rattle.scheme.specs.Marks.{marked};
 ghost use Rattle.solver.specs.Calls.{CutDoes, hold_all};
 ghost use Rattle.solver.specs.Laws.{LeastCut, StillAGap};
@@ -64,7 +64,7 @@ fn mark_placed(marks: &mut [u8], place: &[u16], points: u16)
     requires room { points ≤ length marks.old }
     requires placed { points ≤ length place.now }
     ensures { marks.new
-        ≡ written (map (λ v. (if nat_eq (slice_index place.now v) noPoint then 0 else 1)) (range_with_len 0 points))
+        ≡ written (map (λ v. (if nat_eq (slice_index place.now v) no_point then 0 else 1)) (range_with_len 0 points))
         marks.old }
 {
     for point in 0..points {

@@ -1,6 +1,6 @@
 // The ordering of one round: the inlet first, and then each time a point with the greatest key from those before it.
 ghost use Rattle.std.specs.Prelude.{◌≡◌, ◌≤◌, [], ◌∷◌, length};
-ghost use Rattle.scheme.specs.Flow.{Lawful, points_of};
+ghost use Rattle.scheme.specs.Flow.{Lawful, among};
 ghost use Rattle.scheme.specs.Questions.{WellFormed};
 ghost use Rattle.pick.specs.Calls.{started};
 ghost use Rattle.pick.specs.Keys.{size};
@@ -43,8 +43,8 @@ fn take_inlet<R: Register, P: Pick>(register: &R, pick: &mut P) -> u16
     requires begun { P.held pick.old ≡ started (size (P.held pick.old)) (R.scheme register.now).points }
     requires room { (R.scheme register.now).points ≤ size (P.held pick.old) }
     ensures inlet { result ≡ (R.scheme register.now).inlet }
-    ensures after { HoldsKeys (R.scheme register.now) (points_of [])
-        (points_of ((R.scheme register.now).inlet ∷ [])) (P.held pick.new) }
+    ensures after { HoldsKeys (R.scheme register.now) (among [])
+        (among ((R.scheme register.now).inlet ∷ [])) (P.held pick.new) }
     ensures size { size (P.held pick.new) ≡ size (P.held pick.old) }
 {
     // no other key is above 0, so the raise is not refused and the inlet is the one that is taken

@@ -3,7 +3,7 @@ ghost use Rattle.std.specs.Prelude.{◌≡◌, ◌≤◌, List, length, IfOk};
 ghost use Rattle.scheme.specs.Flow.{Lawful};
 ghost use Rattle.scheme.specs.Questions.{WellFormed};
 ghost use Rattle.pick.specs.Keys.{size};
-ghost use Rattle.flows.specs.Round.{Gainful};
+ghost use Rattle.flows.specs.RoundsTold.{Gainful};
 ghost use Rattle.solver.specs.Calls.{SettleDoes, SettleWorks};
 ghost use Rattle.solver.specs.Laws.{SettleKeeps};
 ghost use Rattle.solver.specs.Work.{work_of};

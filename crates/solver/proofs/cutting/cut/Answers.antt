@@ -9,11 +9,11 @@ use Rattle.solver.proofs.Cuts.{capacity_is, cut_orders, ordered_none, marks_writ
 use Rattle.solver.proofs.OwnLaws.{cut_least, cut_gap, cut_refused}
 use Rattle.solver.proofs.cutting.cut.Given as given
 use Rattle.solver.proofs.cutting.cut.Goals as goal
-use Rattle.solver.proofs.cutting.cut.Goals.{In-ok-ask_ordering, After-clear_needs}
+use Rattle.solver.proofs.cutting.cut.Goals.{In_ok-ask_ordering, After-clear_needs}
 
 -- ---- where every question was answered yes
 
-module _ (g : given.Over) (c : In-ok-ask_ordering g) where
+module _ (g : given.Over) (c : In_ok-ask_ordering g) where
   asked :
       AllYes
       (cut_questions (g.R.Register.scheme c.args.register.now)
@@ -43,7 +43,7 @@ module _ (g : given.Over) (c : After-clear_needs g) where
   ordered =
       cut_orders c.make_ordering-told.ensures.made _ c.points-points.ensures c.args.need.now _
       c.args.marks.now (g.P.Pick.held c.args.pick.now) _
-      (asked g (goal.at.After-clear_needs g c).In-ok-ask_ordering) c.clear_needs.ensures
+      (asked g (goal.at.After-clear_needs g c).In_ok-ask_ordering) c.clear_needs.ensures
       (c.make_ordering-told.ensures.size ∙ c.ask_ordering.ensures.size)
 
 -- ---- the answers
@@ -69,7 +69,7 @@ returns-in_err-ask_ordering g c =
 
 pub make_ordering-told-requires : goal.make_ordering-told-requires
 make_ordering-told-requires g c =
-    let r = able g (goal.at.make_ordering-told-requires g c).In-ok-ask_ordering in
+    let r = able g (goal.at.make_ordering-told-requires g c).In_ok-ask_ordering in
     let points = (g.R.Register.scheme c.args.register.now).points in
     record {
       formed = r.formed;
@@ -84,12 +84,12 @@ make_ordering-told-requires g c =
 
 pub clear_needs-requires : goal.clear_needs-requires
 clear_needs-requires g c =
-    let r = able g (goal.at.clear_needs-requires g c).In-ok-ask_ordering in
+    let r = able g (goal.at.clear_needs-requires g c).In_ok-ask_ordering in
     omega (arith, r.tables.1.1.1.0, c.points-points.ensures)
 
 pub mark_placed-requires : goal.mark_placed-requires
 mark_placed-requires g c =
-    let r = able g (goal.at.mark_placed-requires g c).In-ok-ask_ordering in
+    let r = able g (goal.at.mark_placed-requires g c).In_ok-ask_ordering in
     record {
       room = omega (arith, r.tables.0, c.points-points.ensures);
       placed = omega (arith, r.tables.1.1.0, c.points-points.ensures, c.make_ordering-told.auto.place);
@@ -114,7 +114,7 @@ returns g c =
     let marks = c.args.marks.now in
     let after = c.mark_placed.new.marks in
     let at = goal.at.returns g c in
-    let formed = (able g at.In-ok-ask_ordering).formed in
+    let formed = (able g at.In_ok-ask_ordering).formed in
     let m = c.make_ordering-told.ensures.made in
     let are = marks_written m _ c.points-points.ensures marks after formed c.mark_placed.ensures in
     let does : CutMade s w ks marks c.unwrap_or.result _ _ after =

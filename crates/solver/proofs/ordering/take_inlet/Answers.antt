@@ -1,5 +1,5 @@
 use Rattle.std.proofs.Common.{ap, ◌∙◌}
-use Rattle.scheme.specs.Bounds.{greatest_key}
+use Rattle.pick.specs.Calls.{greatest_key}
 use Rattle.pick.specs.Calls.{after_raise}
 use Rattle.solver.proofs.Held.{inlet_can_be_taken, inlet_taken, inlet_held}
 use Rattle.solver.proofs.ordering.take_inlet.Goals as goal

@@ -33,6 +33,6 @@ returns g c =
     let long = length-map-range_with_len (λ v. cond (eqb v s.inlet) c.args.gain 0) 0 s.points in
     record {
       flows = c.push_order.ensures.flows;
-      goal = ap₂ (λ front n. front ++ drop n c.args.need.now) c.push_order.ensures.needs (all ∙ sym long);
+      need = ap₂ (λ front n. front ++ drop n c.args.need.now) c.push_order.ensures.needs (all ∙ sym long);
       kept = c.push_order.ensures.kept;
     }

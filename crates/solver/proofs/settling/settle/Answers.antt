@@ -2,9 +2,10 @@ use Rattle.std.proofs.Common.{◌≡◌, ◌≤◌, [], ◌∷◌, length, pos, 
 use Rattle.std.proofs.lemmas.Result.{err_from_is_err_and}
 use Rattle.std.proofs.lemmas.Bool.{cond-true, le-leb}
 use Rattle.std.proofs.lemmas.Int.{to_z-of_z}
-use Rattle.scheme.specs.Bounds.{mostReaches}
+use Rattle.scheme.specs.Bounds.{most_reaches}
 use Rattle.scheme.specs.Flow.{value}
 use Rattle.scheme.specs.Questions.{first_no}
+use Rattle.flows.proofs.Told.{counted}
 use Rattle.flows.proofs.Chains.{chains_bounded}
 use Rattle.solver.specs.Calls.{AllYes, SettleMade, ordering_questions}
 use Rattle.solver.specs.Work.{work_of}
@@ -46,8 +47,8 @@ returns g c =
     let lengths = length c.args.order.now ∷ length c.args.place.now ∷ length c.args.need.now ∷ [] in
     let r = ready s lengths ks asked in
     let t = g.B.Register.scheme c.settle_rounds-rounds.new.book in
-    let chain = chains_bounded s t works.0 r.formed r.lawful works.2.run.chain in
-    let few = le-leb (length t.reaches) mostReaches chain.formed.few_reaches in
+    let chain = chains_bounded s t (length works.0) r.formed r.lawful (counted works.2.run.chain) in
+    let few = le-leb (length t.reaches) most_reaches chain.formed.few_reaches in
     let there : c.value_unasked.result ≡ Some (value t) = c.value_unasked.ensures ∙ cond-true _ (Some (value t)) None few in
     let fits : SFits w64 c.unwrap_or-value.result = search rules in
     let made : SettleMade s w ks works.0 _ _ _ _ _ =

@@ -1,6 +1,6 @@
 use Rattle.std.proofs.Common.{◌≡◌, [], ◌∷◌}
 use Rattle.scheme.specs.Crossings.{left_out}
-use Rattle.scheme.specs.Flow.{points_of}
+use Rattle.scheme.specs.Flow.{among}
 use Rattle.pick.specs.Keys.{size}
 use Rattle.solver.specs.Work.{work_of}
 use Rattle.solver.proofs.Running.{Running}
@@ -16,4 +16,4 @@ invariant-rounds g l =
 -- every round that gains leaves less out of the inlet
 abbrev pub decreases-rounds : goal.decreases-rounds
 decreases-rounds g l =
-    left_out (g.B.Register.scheme l.book) (points_of ((g.B.Register.scheme l.initial.book).inlet ∷ []))
+    left_out (g.B.Register.scheme l.book) (among ((g.B.Register.scheme l.initial.book).inlet ∷ []))
