@@ -10,8 +10,9 @@ use Rattle.scheme.specs.declared.rows.Reach.{Reach}
 use Rattle.scheme.specs.Refusals.{unlisted, refused}
 use Rattle.scheme.specs.Scheme.{Scheme, changed, over}
 use Rattle.layers.specs.declared.gates.Gate.{Gate}
+use Rattle.layers.specs.declared.gates.Site.{Site}
 use Rattle.layers.specs.declared.gates.Site.TheVariants.{Below, At, Nowhere}
-use Rattle.layers.specs.Junctions.{site_of, junction, carriable, gated, between, through, gate_reach, shut, split, carried_reaches, gate_reaches}
+use Rattle.layers.specs.Junctions.{by_site, site_of, junction, carriable, gated, between, through, gate_reach, shut, split, carried_reaches, gate_reaches}
 use Rattle.layers.proofs.Mapped.{changed_map}
 use Rattle.layers.proofs.Sites.{nth_append_left, gated_at, junction_on, length_on, placed}
 
@@ -115,3 +116,9 @@ module _ (s : Scheme) (gates : List Gate) (k : ℕ) where
 
     pub nowhere_after : Nowhere ≡ site_of s k → junction s gates ≡ over (junction s gates) (changed f (junction s gates).reaches k)
     nowhere_after here = ap (over (junction s gates)) (sym (changed_past f (junction s gates).reaches k (placed s gates k Nowhere here)))
+
+-- what a write does where its reach is kept
+pub by_site_here :
+    {X : Type 0} (below : X) (gate : ℕ → X) (nowhere : X) (s : Scheme) (k : ℕ) (site : Site) → site ≡ site_of s k
+    → by_site below gate nowhere site ≡ by_site below gate nowhere (site_of s k)
+by_site_here below gate nowhere s k site here = ap (by_site below gate nowhere) here

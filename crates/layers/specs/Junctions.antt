@@ -1,8 +1,9 @@
 -- A register whose points are limited too.
-use Rattle.std.specs.Prelude.{ℕ, ◌+◌, ◌-◌, ◌*◌, Bool, cond, ◌&&◌, List, [], ◌++◌, map, length, nat_le, nat_lt, slice_index_or}
+use Rattle.std.specs.Prelude.{ℕ, ◌+◌, ◌-◌, ◌*◌, Bool, cond, ◌&&◌, List, [], ◌++◌, map, length, nat_le, nat_lt, slice_index_or, slice_set}
 use Rattle.std.specs.List.{range_with_len}
 use Rattle.scheme.specs.declared.rows.Reach.{Reach}
 use Rattle.scheme.specs.Scheme.{Scheme}
+use Rattle.layers.specs.declared.junctions.Junction.{Junction}
 use Rattle.layers.specs.declared.gates.Gate.{Gate}
 use Rattle.layers.specs.declared.gates.Site.{Site}
 use Rattle.layers.specs.declared.gates.Site.TheVariants.{Below, At, Nowhere}
@@ -78,3 +79,27 @@ fresh_gate limits v = record { limit = slice_index_or limits v 1000000; flow = 0
 
 abbrev pub fresh_gate_list : List ℕ → List Gate
 fresh_gate_list limits = map (fresh_gate limits) (range_with_len 0 256)
+
+-- the same of a junction, where what the register below means is given
+abbrev pub junction_over : {R : Type 0} → (R → Scheme) → Junction R → Scheme
+junction_over scheme j = junction (scheme j.below) j.gates
+
+-- what is chosen by a site
+abbrev pub by_site : {X : Type 0} → X → (ℕ → X) → X → Site → X
+by_site below gate nowhere Below = below
+by_site below gate nowhere (At v) = gate v
+by_site below gate nowhere Nowhere = nowhere
+
+-- A write goes where the read of the same field comes from: to the register below if the reach is kept there,
+abbrev pub below_written : (Scheme → Scheme) → Scheme → ℕ → Scheme
+below_written write s k = by_site (write s) (λ v. s) s (site_of s k)
+
+-- and to the gate that the reach is, if it is one.
+abbrev pub gates_written : (Gate → Gate) → Scheme → List Gate → ℕ → List Gate
+gates_written write s gates k = by_site gates (λ v. slice_set gates v (write (slice_index_or gates v shut))) gates (site_of s k)
+
+abbrev pub gate_limited : ℕ → Gate → Gate
+gate_limited x gate = record { limit = x; flow = gate.flow }
+
+abbrev pub gate_flowing : ℕ → Gate → Gate
+gate_flowing x gate = record { limit = gate.limit; flow = x }

@@ -1,5 +1,8 @@
 // A register whose points are limited too: every point has a gate that what passes it goes through.
 ghost use Rattle.std.specs.Prelude.{◌≡◌};
+ghost use Rattle.scheme.specs.Refusals.{book_refusal, refusal_of, unlisted};
+ghost use Rattle.scheme.specs.Scheme.{with_flow, with_limit};
+ghost use Rattle.layers.specs.Junctions.{junction_over, below_written, gates_written, gate_limited, gate_flowing};
 ghost use Rattle.layers.specs.Junctions.{carriable, junction, fresh_gate_list, site_of};
 
 use crate::gates::{
@@ -44,13 +47,13 @@ impl<R> Junction<R> {
 
 impl<R: Register> Junction<R> {
     fn carries(&self) -> bool
-        ensures { result ≡ carriable (R.Register.scheme self.now.below) }
+        ensures { result ≡ carriable (R.scheme self.now.below) }
     {
         usize::from(self.below.points()) <= GATES && self.below.reaches() <= MOST_REACHES
     }
 
     fn site(&self, reach: usize) -> Site
-        ensures { result ≡ site_of (R.Register.scheme self.now.below) reach }
+        ensures { result ≡ site_of (R.scheme self.now.below) reach }
     {
         if !self.carries() {
             return Site::Nowhere;
@@ -69,7 +72,7 @@ impl<R: Register> Junction<R> {
 }
 
 impl<R: Register> Register for Junction<R> {
-    ghost scheme = { λ j. junction (R.Register.scheme j.below) j.gates };
+    ghost scheme = { junction_over R.scheme };
 
     fn points(&self) -> u16 {
         if self.carries() {
@@ -142,8 +145,20 @@ impl<R: Register> Register for Junction<R> {
     }
 }
 
+// What the book below keeps, the junction keeps.
 impl<B: Book> Book for Junction<B> {
-    fn set_limit(&mut self, reach: usize, limit: u32) -> Result<(), BookFault> {
+    ghost kept = { λ j. B.kept j.below };
+
+    fn set_limit(&mut self, reach: usize, limit: u32) -> Result<(), BookFault>
+        ensures answer { refusal_of book_refusal result ≡ unlisted (junction_over B.scheme self.old) reach }
+        ensures after { junction_over B.scheme self.new
+            ≡ with_limit (junction_over B.scheme self.old) reach limit }
+        ensures kept { B.kept self.new.below ≡ B.kept self.old.below }
+        ensures below { B.scheme self.new.below
+            ≡ below_written (λ s. with_limit s reach limit) (B.scheme self.old.below) reach }
+        ensures gates { self.new.gates
+            ≡ gates_written (gate_limited limit) (B.scheme self.old.below) self.old.gates reach }
+    {
         match self.site(reach) {
             Site::Below => self.below.set_limit(reach, limit),
             Site::At(point) => {
@@ -154,7 +169,16 @@ impl<B: Book> Book for Junction<B> {
         }
     }
 
-    fn set_flow(&mut self, reach: usize, flow: u32) -> Result<(), BookFault> {
+    fn set_flow(&mut self, reach: usize, flow: u32) -> Result<(), BookFault>
+        ensures answer { refusal_of book_refusal result ≡ unlisted (junction_over B.scheme self.old) reach }
+        ensures after { junction_over B.scheme self.new
+            ≡ with_flow (junction_over B.scheme self.old) reach flow }
+        ensures kept { B.kept self.new.below ≡ B.kept self.old.below }
+        ensures below { B.scheme self.new.below
+            ≡ below_written (λ s. with_flow s reach flow) (B.scheme self.old.below) reach }
+        ensures gates { self.new.gates
+            ≡ gates_written (gate_flowing flow) (B.scheme self.old.below) self.old.gates reach }
+    {
         match self.site(reach) {
             Site::Below => self.below.set_flow(reach, flow),
             Site::At(point) => {

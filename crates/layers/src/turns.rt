@@ -1,5 +1,7 @@
 // A register turned round: every reach runs the other way, and inlet and outlet change places.
 ghost use Rattle.std.specs.Prelude.{◌≡◌};
+ghost use Rattle.scheme.specs.Refusals.{book_refusal, refusal_of, unlisted};
+ghost use Rattle.scheme.specs.Scheme.{with_flow, with_limit};
 ghost use Rattle.layers.specs.Turns.{turned};
 
 use scheme::{Book, BookFault, Register};
@@ -33,7 +35,7 @@ impl<R> Turned<R> {
 }
 
 impl<R: Register> Register for Turned<R> {
-    ghost scheme = { λ t. turned (R.Register.scheme t.below) };
+    ghost scheme = { λ t. turned (R.scheme t.below) };
 
     fn points(&self) -> u16 {
         self.below.points()
@@ -68,12 +70,29 @@ impl<R: Register> Register for Turned<R> {
     }
 }
 
+// What the book below keeps, the turned one keeps.
 impl<B: Book> Book for Turned<B> {
-    fn set_limit(&mut self, reach: usize, limit: u32) -> Result<(), BookFault> {
+    ghost kept = { λ t. B.kept t.below };
+
+    fn set_limit(&mut self, reach: usize, limit: u32) -> Result<(), BookFault>
+        ensures answer { refusal_of book_refusal result ≡ unlisted (turned (B.scheme self.old.below)) reach }
+        ensures after { turned (B.scheme self.new.below)
+            ≡ with_limit (turned (B.scheme self.old.below)) reach limit }
+        ensures kept { B.kept self.new.below ≡ B.kept self.old.below }
+        ensures below { B.scheme self.new.below
+            ≡ with_limit (B.scheme self.old.below) reach limit }
+    {
         self.below.set_limit(reach, limit)
     }
 
-    fn set_flow(&mut self, reach: usize, flow: u32) -> Result<(), BookFault> {
+    fn set_flow(&mut self, reach: usize, flow: u32) -> Result<(), BookFault>
+        ensures answer { refusal_of book_refusal result ≡ unlisted (turned (B.scheme self.old.below)) reach }
+        ensures after { turned (B.scheme self.new.below)
+            ≡ with_flow (turned (B.scheme self.old.below)) reach flow }
+        ensures kept { B.kept self.new.below ≡ B.kept self.old.below }
+        ensures below { B.scheme self.new.below
+            ≡ with_flow (B.scheme self.old.below) reach flow }
+    {
         self.below.set_flow(reach, flow)
     }
 }

@@ -12,4 +12,6 @@ returns g c =
     record {
       answer = c.set_flow.ensures.answer ∙ unlisted_alike s (turned s) _ (sym (length-map s.reaches turned_reach));
       after = ap turned c.set_flow.ensures.after ∙ turned_changed (flowing c.args.flow) (λ r. refl) s _;
+      kept = c.set_flow.ensures.kept;
+      below = c.set_flow.ensures.after;
     }

@@ -12,4 +12,6 @@ returns g c =
     record {
       answer = c.set_limit.ensures.answer ∙ unlisted_alike s (turned s) _ (sym (length-map s.reaches turned_reach));
       after = ap turned c.set_limit.ensures.after ∙ turned_changed (limited c.args.limit) (λ r. refl) s _;
+      kept = c.set_limit.ensures.kept;
+      below = c.set_limit.ensures.after;
     }
