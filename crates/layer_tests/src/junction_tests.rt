@@ -2,7 +2,7 @@
 use crate::books::{Want, reads_as, refuses};
 use crate::examples::{example, table, twins};
 use layers::Junction;
-use scheme::{Book, Register};
+use scheme::{Book, CallFault, Register, value_of};
 use std::process::Abort;
 use std::test::Fail;
 
@@ -101,5 +101,23 @@ fn writes_go_where_the_reads_come_from(rt: HostRuntime) -> Result<(), Fail> {
     // one past the last gate
     refuses(&rt, &mut j, 9);
     assert_eq!(rt; j.reaches(), 9);
+    Ok(())
+}
+
+// The junction list 9 9 5 9 over the example: point 2 passes only 5, so that 7 is the most.
+#[test]
+fn a_junction_is_reviewed(rt: HostRuntime) -> Result<(), Fail> {
+    let mut j = Junction::new(example(rt.alloc())?, &[9, 9, 5, 9]);
+    let flows = [3, 4, 1, 2, 5, 7, 3, 5, 7];
+    for (reach, flow) in flows.iter().enumerate() {
+        j.set_flow(reach, *flow)?;
+    }
+    assert_eq!(rt; value_of(&j), Ok(7));
+    assert_eq!(rt; scheme::check(&j, &[1, 1, 1, 0, 1, 1, 0, 0]), Ok(()));
+    // a side of capacity 9, which the value does not reach
+    assert_eq!(rt;
+        scheme::check(&j, &[1, 0, 0, 0, 0, 0, 0, 0]),
+        Err(CallFault::NotTight)
+    );
     Ok(())
 }

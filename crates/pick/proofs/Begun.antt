@@ -1,12 +1,12 @@
 -- A heap that starts: of the points below one more, each has its entry at the place of its own number.
-use Rattle.std.proofs.Common.{◌≡◌, ℕ, ◌+◌, ◌-◌, ◌/◌, ◌<◌, ◌≤◌, List, length, get_or, set, replicate, Some, None, sym, refl, ap, ◌∙◌, subst, ⊎_elim, arith, below_none, below_more}
+use Rattle.std.proofs.Common.{◌≡◌, ℕ, ◌+◌, ◌<◌, ◌≤◌, List, length, get_or, set, replicate, Some, sym, refl, ap, ◌∙◌, ⊎_elim, arith, below_more}
 use Rattle.std.proofs.lemmas.List.{get_or-replicate, get_or-set_same, get_or-set_other, length-set, length-replicate}
 use Rattle.std.proofs.lemmas.Bool.{cases_lt, lt-ltb, le-ltb}
 use Rattle.scheme.specs.Bounds.{most_points}
 use Rattle.pick.specs.declared.trees.Entry.{Entry}
 use Rattle.pick.specs.declared.trees.Tree.{Tree}
 use Rattle.pick.specs.Calls.{started}
-use Rattle.pick.specs.Trees.{above, key_at, place_of, entry_at, held_in, Linked, Lawful}
+use Rattle.pick.specs.Trees.{above, key_at, place_of, entry_at, held_in, Lawful}
 use Rattle.pick.proofs.Keys.{size_started, key_of_started}
 use Rattle.pick.proofs.Links.{from_used, from_unused, held_is}
 

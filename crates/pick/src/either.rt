@@ -11,7 +11,7 @@ pub enum Either<P, Q> {
 }
 
 impl<P: Pick, Q: Pick> Pick for Either<P, Q> {
-    ghost held = { λ e. elim e [ First p ↦ P.Pick.held p | Second q ↦ Q.Pick.held q ] };
+    ghost held = { λ e. elim e [ First p ↦ P.held p | Second q ↦ Q.held q ] };
 
     fn start(&mut self, points: u16) -> Result<(), PickFault> {
         match self {

@@ -1,5 +1,6 @@
 // What every pick of size 512 does, whatever its kind.
 use crate::either::Either;
+use crate::heaps::Heap;
 use crate::picks::Pick;
 use crate::scans::Scan;
 use scheme::{Layer, PickFault, Refusal};
@@ -9,6 +10,11 @@ use std::test::Fail;
 #[test]
 fn scan(rt: HostRuntime) -> Result<(), Fail> {
     trials(&rt, &mut Scan::new())
+}
+
+#[test]
+fn heap(rt: HostRuntime) -> Result<(), Fail> {
+    trials(&rt, &mut Heap::new())
 }
 
 // One list holds picks of both kinds.

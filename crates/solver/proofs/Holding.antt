@@ -1,6 +1,6 @@
 -- What it comes to that all questions before an ordering were answered yes: the book is in order, and the tables and the
 -- pick hold its points.
-use Rattle.std.proofs.Common.{◌≡◌, ℕ, ◌≤◌, Bool, true, leb, List, [], ◌∷◌, length, sym}
+use Rattle.std.proofs.Common.{◌≡◌, ℕ, ◌≤◌, true, leb, List, [], ◌∷◌}
 use Rattle.std.specs.List.{AllByRecursion}
 use Rattle.std.proofs.lemmas.Bool.{leb-true, and_parts}
 use Rattle.scheme.specs.Flow.{Lawful}
@@ -8,8 +8,7 @@ use Rattle.scheme.specs.Questions.{WellFormed, book_questions}
 use Rattle.scheme.specs.Scheme.{Scheme}
 use Rattle.pick.specs.Keys.{Keys, size}
 use Rattle.pick.specs.Calls.{ask_start}
-use Rattle.solver.specs.Calls.{AllYes, hold_all, ask_tables, lengths_of, ordering_questions, round_questions, cut_questions}
-use Rattle.solver.specs.Work.{Work}
+use Rattle.solver.specs.Calls.{AllYes, hold_all, ask_tables, ordering_questions}
 use Rattle.solver.proofs.OwnLaws.{asked_ordering}
 use Rattle.solver.proofs.Yes.{yes_back, yes_first, yes_then, yes_test}
 

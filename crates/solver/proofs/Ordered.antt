@@ -1,11 +1,10 @@
 -- What the tables that an ordering left tell of it.
-use Rattle.std.proofs.Common.{◌≡◌, ℕ, ◌≤◌, cond, eqb, List, map, length, take, drop, sym, ap, ◌∙◌, arith, length-append}
-use Rattle.std.specs.List.{range_with_len}
+use Rattle.std.proofs.Common.{◌≡◌, ℕ, ◌≤◌, List, length, take, drop, sym, ap, ◌∙◌, arith, length-append}
 use Rattle.std.proofs.lemmas.List.FromFn.{length-map-range_with_len}
 use Rattle.scheme.specs.Scheme.{Scheme}
 use Rattle.flows.specs.Ordering.{Made}
 use Rattle.solver.specs.Orders.{OrderingMade}
-use Rattle.solver.specs.Work.{Work, work_of, written, places, supply, position}
+use Rattle.solver.specs.Work.{work_of, places, position}
 use Rattle.solver.proofs.Written.{written_start}
 
 module _ (s : Scheme) (o p : List ℕ) (gain count : ℕ) (o' p' : List ℕ) (m : OrderingMade s o p gain count o' p') where

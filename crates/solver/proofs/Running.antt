@@ -2,17 +2,13 @@
 use Rattle.std.proofs.Common.{◌≡◌, ℕ, ◌+◌, ◌*◌, ◌<◌, ◌≤◌, Bool, true, false, cond, eqb, List, [], ◌∷◌, ◌++◌, length, sym, refl, ap, ◌∙◌, subst, arith, length-append}
 use Rattle.std.proofs.lemmas.List.FromFn.{length-map-range_with_len}
 use Rattle.std.proofs.ByRecursion.{All-weaker, sum_by_le}
-use Rattle.std.proofs.lemmas.Bool.{eq-eqb}
-use Rattle.scheme.specs.declared.rows.Reach.{Reach}
 use Rattle.scheme.specs.Crossings.{enters, left_across, left_out}
-use Rattle.scheme.specs.Flow.{Points, Side, Lawful, leaves, left_on, left_back, among}
+use Rattle.scheme.specs.Flow.{Points, Lawful, leaves, left_on, left_back, among}
 use Rattle.scheme.specs.Questions.{Joined, WellFormed}
 use Rattle.scheme.specs.Scheme.{Scheme}
 use Rattle.scheme.proofs.SumLaws.{all_both}
-use Rattle.flows.specs.Ordering.{Made}
-use Rattle.flows.specs.Push.{push}
 use Rattle.flows.specs.Round.{Round}
-use Rattle.flows.specs.RoundsTold.{Gainful, gainful, RoundsTold, SettledRun}
+use Rattle.flows.specs.RoundsTold.{Gainful, gainful, RoundsTold}
 use Rattle.flows.specs.RoundsTold.RoundsTold.{none, more}
 use Rattle.flows.specs.RoundLaws.{Chain}
 use Rattle.flows.proofs.Told.{counted}
@@ -20,7 +16,7 @@ use Rattle.flows.proofs.Chains.{chains_bounded, gained_within_side, inlet_side}
 use Rattle.flows.proofs.Gaps.{round_raises}
 use Rattle.flows.proofs.Limits.{limits_side}
 use Rattle.solver.specs.Calls.{RoundWorks, SettleWorks, after_orders}
-use Rattle.solver.specs.Work.{Work, work_of, written, worked, places, supply, position}
+use Rattle.solver.specs.Work.{Work, written, places, supply, position}
 use Rattle.solver.proofs.Ordered.{tables_are}
 use Rattle.solver.proofs.Written.{written_over}
 

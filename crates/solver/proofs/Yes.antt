@@ -1,5 +1,5 @@
 -- What follows where every question of a list was answered yes.
-use Rattle.std.proofs.Common.{◌≡◌, ℕ, ◌<◌, ◌≤◌, Bool, true, false, cond, List, [], ◌∷◌, ◌++◌, Some, None, sym, refl, ap, ◌∙◌}
+use Rattle.std.proofs.Common.{◌≡◌, Bool, true, false, cond, List, [], ◌∷◌, ◌++◌, Some, None, refl}
 use Rattle.scheme.specs.declared.faults.Refusal.{Refusal}
 use Rattle.scheme.specs.Questions.{Question, or_else, first_no}
 use Rattle.scheme.proofs.Searches.{some≢none}

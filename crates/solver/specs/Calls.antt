@@ -9,7 +9,7 @@
 --
 -- Only two choices are free, and each is marked where it is made: the order among equal keys, and what the pick holds
 -- afterwards. Everything else is an equation.
-use Rattle.std.specs.Prelude.{◌≡◌, ℕ, ◌<◌, Bool, true, cond, ◌&&◌, List, [], ◌∷◌, ◌++◌, length, ℤ, Some, None, Ok, Err, Option, Result, nat_le, nat_lt, slice_index_or}
+use Rattle.std.specs.Prelude.{◌≡◌, ℕ, ◌<◌, Bool, true, cond, ◌&&◌, List, [], ◌∷◌, ◌++◌, length, ℤ, Some, None, Ok, Err, Result, nat_le, nat_lt, slice_index_or}
 use Rattle.scheme.specs.declared.faults.Layer.TheVariants.{Call}
 use Rattle.scheme.specs.declared.faults.CallFault.{CallFault}
 use Rattle.scheme.specs.Bounds.{greatest_limit}

@@ -1,5 +1,5 @@
 -- Lists of calls: what each did, and the law that holds after each call of every list.
-use Rattle.std.specs.Prelude.{◌≡◌, ℕ, ◌<◌, cond, List, [], ◌∷◌, ◌++◌, length, ℤ, Some, None, Ok, Err, vec_items, Option, Result, ◌==◌}
+use Rattle.std.specs.Prelude.{◌≡◌, ℕ, cond, List, [], ◌∷◌, ◌++◌, length, ℤ, Some, Ok, Err, vec_items, Option, Result, ◌==◌}
 use Rattle.std.specs.List.{AllByRecursion}
 use Rattle.scheme.specs.declared.faults.CallFault.{CallFault}
 use Rattle.scheme.specs.declared.faults.CallFault.TheVariants.{Gains}

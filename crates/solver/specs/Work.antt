@@ -1,5 +1,5 @@
 -- The tables that come with a call, and what is written into them.
-use Rattle.std.specs.Prelude.{ℕ, ◌+◌, Bool, cond, List, [], ◌∷◌, ◌++◌, map, length, drop, ◌==◌}
+use Rattle.std.specs.Prelude.{ℕ, ◌+◌, cond, List, [], ◌∷◌, ◌++◌, map, length, drop, ◌==◌}
 use Rattle.std.specs.List.{range_with_len}
 use Rattle.scheme.specs.Bounds.{no_point}
 use Rattle.scheme.specs.Scheme.{Scheme}

@@ -11,8 +11,8 @@ use scheme::{Book, CallFault, Register, ask_book, ask_form, clear_flows, value_o
 
 // Writes flow 0 into every reach of a well-formed book, and answers how many points and reaches it has.
 pub fn open<B: Book>(book: &mut B) -> Result<Opened, CallFault>
-    ensures does { OpenDoes (B.Register.scheme book.old) result (B.Register.scheme book.new) }
-    ensures kept { B.Book.kept book.new ≡ B.Book.kept book.old }
+    ensures does { OpenDoes (B.scheme book.old) result (B.scheme book.new) }
+    ensures kept { B.kept book.new ≡ B.kept book.old }
 {
     ask_form(book)?;
     clear_flows(book);
@@ -24,9 +24,9 @@ pub fn open<B: Book>(book: &mut B) -> Result<Opened, CallFault>
 
 // Writes a new limit into one reach, and answers the old one.
 pub fn limit<B: Book>(book: &mut B, reach: usize, limit: u32) -> Result<u32, CallFault>
-    ensures does { LimitDoes (B.Register.scheme book.old) reach limit
-        result (B.Register.scheme book.new) }
-    ensures kept { B.Book.kept book.new ≡ B.Book.kept book.old }
+    ensures does { LimitDoes (B.scheme book.old) reach limit
+        result (B.scheme book.new) }
+    ensures kept { B.kept book.new ≡ B.kept book.old }
 {
     let old = ask_limit(book, reach, limit)?;
     book.set_limit(reach, limit)?;

@@ -20,18 +20,18 @@ pub(crate) fn push_along<B: Book>(
     need: &mut [u64],
     gain: u64,
 )
-    requires formed { WellFormed (B.Register.scheme book.old) }
-    requires lawful { Lawful (B.Register.scheme book.old) }
-    requires made { (keys : List ℕ) × Made (B.Register.scheme book.old) order.now keys gain }
+    requires formed { WellFormed (B.scheme book.old) }
+    requires lawful { Lawful (B.scheme book.old) }
+    requires made { (keys : List ℕ) × Made (B.scheme book.old) order.now keys gain }
     requires some { 0 < gain }
-    requires placed { take (B.Register.scheme book.old).points place.now
-        ≡ places (B.Register.scheme book.old) order.now }
-    requires room { (B.Register.scheme book.old).points ≤ length need.old }
-    ensures flows { B.Register.scheme book.new
-        ≡ push (B.Register.scheme book.old) order.now gain }
+    requires placed { take (B.scheme book.old).points place.now
+        ≡ places (B.scheme book.old) order.now }
+    requires room { (B.scheme book.old).points ≤ length need.old }
+    ensures flows { B.scheme book.new
+        ≡ push (B.scheme book.old) order.now gain }
     ensures need { need.new
-        ≡ written (supply (B.Register.scheme book.old) gain) need.old }
-    ensures kept { B.Book.kept book.new ≡ B.Book.kept book.old }
+        ≡ written (supply (B.scheme book.old) gain) need.old }
+    ensures kept { B.kept book.new ≡ B.kept book.old }
 {
     let points = usize::from(book.points());
     push_order(book, order, &place[..points], &mut need[..points], gain);
@@ -39,11 +39,11 @@ pub(crate) fn push_along<B: Book>(
 
 // Back through the order, from the outlet to the point after the inlet. The tables are as long as there are points.
 fn push_order<B: Book>(book: &mut B, order: &[u16], place: &[u16], need: &mut [u64], gain: u64)
-    requires { OrderAsks (B.Register.scheme book.old) order.now place.now need.old gain }
-    ensures flows { B.Register.scheme book.new
-        ≡ push (B.Register.scheme book.old) order.now gain }
-    ensures needs { need.new ≡ supply (B.Register.scheme book.old) gain }
-    ensures kept { B.Book.kept book.new ≡ B.Book.kept book.old }
+    requires { OrderAsks (B.scheme book.old) order.now place.now need.old gain }
+    ensures flows { B.scheme book.new
+        ≡ push (B.scheme book.old) order.now gain }
+    ensures needs { need.new ≡ supply (B.scheme book.old) gain }
+    ensures kept { B.kept book.new ≡ B.kept book.old }
 {
     first_needs(need, book.outlet(), gain);
     for turn in (1..order.len()).rev() {
@@ -74,12 +74,12 @@ pub(crate) fn clear_needs(need: &mut [u64], points: u16)
 
 // The point asks along all its reaches, in number order.
 fn push_point<B: Book>(book: &mut B, place: &[u16], need: &mut [u64], point: u16)
-    requires { PointAsks (B.Register.scheme book.old) place.now need.old point }
-    ensures flows { B.Register.scheme book.new ≡ over (B.Register.scheme book.old)
-        (pushed_point (B.Register.scheme book.old) place.now need.old point).0 }
+    requires { PointAsks (B.scheme book.old) place.now need.old point }
+    ensures flows { B.scheme book.new ≡ over (B.scheme book.old)
+        (pushed_point (B.scheme book.old) place.now need.old point).0 }
     ensures needs { needs_of need.new
-        ≡ (pushed_point (B.Register.scheme book.old) place.now need.old point).1 }
-    ensures kept { B.Book.kept book.new ≡ B.Book.kept book.old }
+        ≡ (pushed_point (B.scheme book.old) place.now need.old point).1 }
+    ensures kept { B.kept book.new ≡ B.kept book.old }
 {
     let mut from = 0;
     while let Some(reach) = next_touching(&*book, point, from) {
@@ -91,13 +91,13 @@ fn push_point<B: Book>(book: &mut B, place: &[u16], need: &mut [u64], point: u16
 // The point asks along one reach, if that joins it with an earlier point: it gets the smaller of what it still needs
 // and what is left along the reach towards it.
 fn push_reach<B: Book>(book: &mut B, place: &[u16], need: &mut [u64], point: u16, reach: usize)
-    requires { ReachAsks (B.Register.scheme book.old) place.now need.old point reach }
-    ensures flows { B.Register.scheme book.new ≡ over (B.Register.scheme book.old)
-        (slice_set (B.Register.scheme book.old).reaches reach
-        (pushed_at (B.Register.scheme book.old) place.now need.old point reach).0) }
+    requires { ReachAsks (B.scheme book.old) place.now need.old point reach }
+    ensures flows { B.scheme book.new ≡ over (B.scheme book.old)
+        (slice_set (B.scheme book.old).reaches reach
+        (pushed_at (B.scheme book.old) place.now need.old point reach).0) }
     ensures needs { needs_of need.new
-        ≡ (pushed_at (B.Register.scheme book.old) place.now need.old point reach).1 }
-    ensures kept { B.Book.kept book.new ≡ B.Book.kept book.old }
+        ≡ (pushed_at (B.scheme book.old) place.now need.old point reach).1 }
+    ensures kept { B.kept book.new ≡ B.kept book.old }
 {
     let row = read_reach(&*book, reach);
     if comes_from_earlier(place, point, row.head, row.tail) {

@@ -16,11 +16,11 @@ use scheme::{Book, CallFault};
 // Opens the book and makes the calls one after another, whatever each answers; an answer that stood beside a call gives way
 // to the new one.
 pub fn replay<B: Book, P: Pick>(book: &mut B, asks: &mut [Ask<P>]) -> Result<Opened, CallFault>
-    ensures does { Replayed (B.Register.scheme book.old)
-        (map (view_of P.Pick.held) asks.old) result
-        (B.Register.scheme book.new) (map (view_of P.Pick.held) asks.new) }
+    ensures does { Replayed (B.scheme book.old)
+        (map (view_of P.held) asks.old) result
+        (B.scheme book.new) (map (view_of P.held) asks.new) }
     ensures unopened { OnErr result (asks.new ≡ asks.old) }
-    ensures kept { B.Book.kept book.new ≡ B.Book.kept book.old }
+    ensures kept { B.kept book.new ≡ B.kept book.old }
 {
     let told = open(book)?;
     for ask in asks.iter_mut() {
@@ -31,9 +31,9 @@ pub fn replay<B: Book, P: Pick>(book: &mut B, asks: &mut [Ask<P>]) -> Result<Ope
 
 // Makes one call, and puts its answer beside it.
 fn make_call<B: Book, P: Pick>(book: &mut B, ask: &mut Ask<P>)
-    ensures does { Stepped (B.Register.scheme book.old) (view_of P.Pick.held ask.old)
-        (B.Register.scheme book.new) (view_of P.Pick.held ask.new) }
-    ensures kept { B.Book.kept book.new ≡ B.Book.kept book.old }
+    ensures does { Stepped (B.scheme book.old) (view_of P.held ask.old)
+        (B.scheme book.new) (view_of P.held ask.new) }
+    ensures kept { B.kept book.new ≡ B.kept book.old }
 {
     let answer = answer_call(book, ask);
     ask.answer = Some(answer);
@@ -42,9 +42,9 @@ fn make_call<B: Book, P: Pick>(book: &mut B, ask: &mut Ask<P>)
 // Makes one call. The match is its last step, so that what was done in an arm is not lost where the arms meet.
 fn answer_call<B: Book, P: Pick>(book: &mut B, ask: &mut Ask<P>) -> Result<Answer, CallFault>
     ensures does { Answered ask.old.call
-        (B.Register.scheme book.old) (view_of P.Pick.held ask.old) result
-        (B.Register.scheme book.new) (view_of P.Pick.held ask.new) }
-    ensures kept { B.Book.kept book.new ≡ B.Book.kept book.old }
+        (B.scheme book.old) (view_of P.held ask.old) result
+        (B.scheme book.new) (view_of P.held ask.new) }
+    ensures kept { B.kept book.new ≡ B.kept book.old }
 {
     match ask.call {
         Call::Open => call_open(book, ask),
@@ -58,9 +58,9 @@ fn answer_call<B: Book, P: Pick>(book: &mut B, ask: &mut Ask<P>) -> Result<Answe
 
 fn call_open<B: Book, P: Pick>(book: &mut B, ask: &Ask<P>) -> Result<Answer, CallFault>
     ensures does { Answered Open
-        (B.Register.scheme book.old) (view_of P.Pick.held ask.now) result
-        (B.Register.scheme book.new) (view_of P.Pick.held ask.now) }
-    ensures kept { B.Book.kept book.new ≡ B.Book.kept book.old }
+        (B.scheme book.old) (view_of P.held ask.now) result
+        (B.scheme book.new) (view_of P.held ask.now) }
+    ensures kept { B.kept book.new ≡ B.kept book.old }
 {
     let told = open(book)?;
     Ok(Answer::OfOpen(told))
@@ -73,9 +73,9 @@ fn call_limit<B: Book, P: Pick>(
     most: u32,
 ) -> Result<Answer, CallFault>
     ensures does { Answered (Limit reach most)
-        (B.Register.scheme book.old) (view_of P.Pick.held ask.now) result
-        (B.Register.scheme book.new) (view_of P.Pick.held ask.now) }
-    ensures kept { B.Book.kept book.new ≡ B.Book.kept book.old }
+        (B.scheme book.old) (view_of P.held ask.now) result
+        (B.scheme book.new) (view_of P.held ask.now) }
+    ensures kept { B.kept book.new ≡ B.kept book.old }
 {
     let old = limit(book, reach, most)?;
     Ok(Answer::OfLimit(old))
@@ -83,9 +83,9 @@ fn call_limit<B: Book, P: Pick>(
 
 fn call_round<B: Book, P: Pick>(book: &mut B, ask: &mut Ask<P>) -> Result<Answer, CallFault>
     ensures does { Answered Round
-        (B.Register.scheme book.old) (view_of P.Pick.held ask.old) result
-        (B.Register.scheme book.new) (view_of P.Pick.held ask.new) }
-    ensures kept { B.Book.kept book.new ≡ B.Book.kept book.old }
+        (B.scheme book.old) (view_of P.held ask.old) result
+        (B.scheme book.new) (view_of P.held ask.new) }
+    ensures kept { B.kept book.new ≡ B.kept book.old }
 {
     let told = round(
         book,
@@ -99,9 +99,9 @@ fn call_round<B: Book, P: Pick>(book: &mut B, ask: &mut Ask<P>) -> Result<Answer
 
 fn call_settle<B: Book, P: Pick>(book: &mut B, ask: &mut Ask<P>) -> Result<Answer, CallFault>
     ensures does { Answered Settle
-        (B.Register.scheme book.old) (view_of P.Pick.held ask.old) result
-        (B.Register.scheme book.new) (view_of P.Pick.held ask.new) }
-    ensures kept { B.Book.kept book.new ≡ B.Book.kept book.old }
+        (B.scheme book.old) (view_of P.held ask.old) result
+        (B.scheme book.new) (view_of P.held ask.new) }
+    ensures kept { B.kept book.new ≡ B.kept book.old }
 {
     let told = settle(
         book,
@@ -115,8 +115,8 @@ fn call_settle<B: Book, P: Pick>(book: &mut B, ask: &mut Ask<P>) -> Result<Answe
 
 fn call_value<B: Book, P: Pick>(book: &B, ask: &Ask<P>) -> Result<Answer, CallFault>
     ensures { Answered Value
-        (B.Register.scheme book.now) (view_of P.Pick.held ask.now) result
-        (B.Register.scheme book.now) (view_of P.Pick.held ask.now) }
+        (B.scheme book.now) (view_of P.held ask.now) result
+        (B.scheme book.now) (view_of P.held ask.now) }
 {
     let flow = value(book)?;
     Ok(Answer::OfValue(flow))
@@ -124,8 +124,8 @@ fn call_value<B: Book, P: Pick>(book: &B, ask: &Ask<P>) -> Result<Answer, CallFa
 
 fn call_cut<B: Book, P: Pick>(book: &B, ask: &mut Ask<P>) -> Result<Answer, CallFault>
     ensures { Answered Cut
-        (B.Register.scheme book.now) (view_of P.Pick.held ask.old) result
-        (B.Register.scheme book.now) (view_of P.Pick.held ask.new) }
+        (B.scheme book.now) (view_of P.held ask.old) result
+        (B.scheme book.now) (view_of P.held ask.new) }
 {
     let capacity = cut(
         book,

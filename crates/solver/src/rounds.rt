@@ -24,13 +24,13 @@ pub fn round<B: Book, P: Pick>(
     place: &mut [u16],
     need: &mut [u64],
 ) -> Result<Rounded, CallFault>
-    ensures does { RoundDoes (B.Register.scheme book.old)
-        (work_of order.old place.old need.old) (P.Pick.held pick.old)
-        result (B.Register.scheme book.new)
-        (work_of order.new place.new need.new) (P.Pick.held pick.new) }
+    ensures does { RoundDoes (B.scheme book.old)
+        (work_of order.old place.old need.old) (P.held pick.old)
+        result (B.scheme book.new)
+        (work_of order.new place.new need.new) (P.held pick.new) }
     ensures law { IfOk result (λ told. RoundKeeps
-        (B.Register.scheme book.old) (B.Register.scheme book.new) told.gain) }
-    ensures kept { B.Book.kept book.new ≡ B.Book.kept book.old }
+        (B.scheme book.old) (B.scheme book.new) told.gain) }
+    ensures kept { B.kept book.new ≡ B.kept book.old }
 {
     let hold = tables_hold(book, order.len(), place.len(), need.len());
     ask_ordering(book, pick, hold)?;
@@ -45,18 +45,18 @@ pub(crate) fn make_round<B: Book, P: Pick>(
     place: &mut [u16],
     need: &mut [u64],
 ) -> Rounded
-    requires formed { WellFormed (B.Register.scheme book.old) }
-    requires lawful { Lawful (B.Register.scheme book.old) }
-    requires listed { (B.Register.scheme book.old).points ≤ length order.old }
-    requires placed { (B.Register.scheme book.old).points ≤ length place.old }
-    requires needed { (B.Register.scheme book.old).points ≤ length need.old }
-    requires room { (B.Register.scheme book.old).points ≤ size (P.Pick.held pick.old) }
-    ensures works { RoundWorks (B.Register.scheme book.old)
+    requires formed { WellFormed (B.scheme book.old) }
+    requires lawful { Lawful (B.scheme book.old) }
+    requires listed { (B.scheme book.old).points ≤ length order.old }
+    requires placed { (B.scheme book.old).points ≤ length place.old }
+    requires needed { (B.scheme book.old).points ≤ length need.old }
+    requires room { (B.scheme book.old).points ≤ size (P.held pick.old) }
+    ensures works { RoundWorks (B.scheme book.old)
         (work_of order.old place.old need.old) result.gain result.length
-        (B.Register.scheme book.new)
+        (B.scheme book.new)
         (work_of order.new place.new need.new) }
-    ensures size { size (P.Pick.held pick.new) ≡ size (P.Pick.held pick.old) }
-    ensures kept { B.Book.kept book.new ≡ B.Book.kept book.old }
+    ensures size { size (P.held pick.new) ≡ size (P.held pick.old) }
+    ensures kept { B.kept book.new ≡ B.kept book.old }
 {
     // the pick holds the points, so it is not refused
     let _ = pick.start(book.points());
@@ -67,20 +67,20 @@ pub(crate) fn make_round<B: Book, P: Pick>(
 
 // Pushes the gain of an ordering, if there is one; without one nobody needs anything.
 fn push_gain<B: Book>(book: &mut B, order: &[u16], place: &[u16], need: &mut [u64], told: Rounded)
-    requires formed { WellFormed (B.Register.scheme book.old) }
-    requires lawful { Lawful (B.Register.scheme book.old) }
+    requires formed { WellFormed (B.scheme book.old) }
+    requires lawful { Lawful (B.scheme book.old) }
     requires listed { told.length ≤ length order.now }
     requires ordered { (keys : List ℕ)
-        × Made (B.Register.scheme book.old) (take told.length order.now) keys told.gain }
-    requires placed { take (B.Register.scheme book.old).points place.now
-        ≡ places (B.Register.scheme book.old) (take told.length order.now) }
-    requires room { (B.Register.scheme book.old).points ≤ length need.old }
-    ensures flows { B.Register.scheme book.new ≡ cond (told.gain == 0)
-        (B.Register.scheme book.old)
-        (push (B.Register.scheme book.old) (take told.length order.now) told.gain) }
+        × Made (B.scheme book.old) (take told.length order.now) keys told.gain }
+    requires placed { take (B.scheme book.old).points place.now
+        ≡ places (B.scheme book.old) (take told.length order.now) }
+    requires room { (B.scheme book.old).points ≤ length need.old }
+    ensures flows { B.scheme book.new ≡ cond (told.gain == 0)
+        (B.scheme book.old)
+        (push (B.scheme book.old) (take told.length order.now) told.gain) }
     ensures need { need.new
-        ≡ written (supply (B.Register.scheme book.old) told.gain) need.old }
-    ensures kept { B.Book.kept book.new ≡ B.Book.kept book.old }
+        ≡ written (supply (B.scheme book.old) told.gain) need.old }
+    ensures kept { B.kept book.new ≡ B.kept book.old }
 {
     let Rounded { gain, length } = told;
     if gain > 0 {

@@ -23,13 +23,13 @@ pub fn settle<B: Book, P: Pick>(
     place: &mut [u16],
     need: &mut [u64],
 ) -> Result<Settled, CallFault>
-    ensures does { (rounds : List Gainful) × SettleDoes (B.Register.scheme book.old)
-        (work_of order.old place.old need.old) (P.Pick.held pick.old)
-        rounds result (B.Register.scheme book.new)
-        (work_of order.new place.new need.new) (P.Pick.held pick.new) }
+    ensures does { (rounds : List Gainful) × SettleDoes (B.scheme book.old)
+        (work_of order.old place.old need.old) (P.held pick.old)
+        rounds result (B.scheme book.new)
+        (work_of order.new place.new need.new) (P.held pick.new) }
     ensures law { IfOk result (λ told. SettleKeeps
-        (B.Register.scheme book.old) (B.Register.scheme book.new) told.value) }
-    ensures kept { B.Book.kept book.new ≡ B.Book.kept book.old }
+        (B.scheme book.old) (B.scheme book.new) told.value) }
+    ensures kept { B.kept book.new ≡ B.kept book.old }
 {
     let hold = tables_hold(book, order.len(), place.len(), need.len());
     ask_ordering(book, pick, hold)?;
@@ -47,19 +47,19 @@ fn settle_rounds<B: Book, P: Pick>(
     place: &mut [u16],
     need: &mut [u64],
 ) -> u64
-    requires formed { WellFormed (B.Register.scheme book.old) }
-    requires lawful { Lawful (B.Register.scheme book.old) }
-    requires listed { (B.Register.scheme book.old).points ≤ length order.old }
-    requires placed { (B.Register.scheme book.old).points ≤ length place.old }
-    requires needed { (B.Register.scheme book.old).points ≤ length need.old }
-    requires room { (B.Register.scheme book.old).points ≤ size (P.Pick.held pick.old) }
+    requires formed { WellFormed (B.scheme book.old) }
+    requires lawful { Lawful (B.scheme book.old) }
+    requires listed { (B.scheme book.old).points ≤ length order.old }
+    requires placed { (B.scheme book.old).points ≤ length place.old }
+    requires needed { (B.scheme book.old).points ≤ length need.old }
+    requires room { (B.scheme book.old).points ≤ size (P.held pick.old) }
     ensures works { (rounds : List Gainful) × (result ≡ length rounds)
-        × SettleWorks (B.Register.scheme book.old)
+        × SettleWorks (B.scheme book.old)
         (work_of order.old place.old need.old) rounds
-        (B.Register.scheme book.new)
+        (B.scheme book.new)
         (work_of order.new place.new need.new) }
-    ensures size { size (P.Pick.held pick.new) ≡ size (P.Pick.held pick.old) }
-    ensures kept { B.Book.kept book.new ≡ B.Book.kept book.old }
+    ensures size { size (P.held pick.new) ≡ size (P.held pick.old) }
+    ensures kept { B.kept book.new ≡ B.kept book.old }
 {
     let mut rounds = 0;
     'rounds: loop {

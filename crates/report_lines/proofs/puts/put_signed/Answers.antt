@@ -1,4 +1,4 @@
-use Rattle.std.proofs.Common.{◌≡◌, ◌++◌, pos, nat_abs, codes, decimal, sym, ap, ◌∙◌, arith, w64}
+use Rattle.std.proofs.Common.{◌++◌, pos, nat_abs, codes, decimal, sym, ap, ◌∙◌, arith, w64}
 use lib.Signed.{le_z}
 use Rattle.std.proofs.lemmas.Int.{to_z-of_z}
 use Rattle.report_lines.proofs.Pieces.{lays_as, then}

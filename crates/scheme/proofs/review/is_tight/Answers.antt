@@ -1,7 +1,6 @@
-use Rattle.std.proofs.Common.{◌≡◌, ◌<◌, ◌≤◌, cond, not, ◌&&◌, eqb, length, get_or, ap, ◌∙◌, arith}
+use Rattle.std.proofs.Common.{◌≡◌, ◌<◌, ◌≤◌, cond, eqb, length, ap, ◌∙◌, arith}
 use Rattle.scheme.specs.Flow.{leaves, value, capacity}
 use Rattle.scheme.specs.Marks.{marked, is_number}
-use Rattle.scheme.specs.Scheme.{no_reach}
 use Rattle.scheme.proofs.Finds.{field_read}
 use Rattle.scheme.proofs.Totals.{sum_step, sum_all, value_read}
 use Rattle.scheme.proofs.Sides.{number_read}

@@ -1,4 +1,4 @@
-use Rattle.std.proofs.Common.{◌≡◌, ◌<◌, ◌≤◌, not, length, sym, ap, ◌∙◌, arith}
+use Rattle.std.proofs.Common.{◌<◌, ◌≤◌, not, length, sym, ap, ◌∙◌, arith}
 use Rattle.scheme.specs.Scheme.{no_reach}
 use Rattle.scheme.proofs.Searches.{fail_here, fail_later, fail_nowhere}
 use Rattle.solver.specs.Joins.{touches}

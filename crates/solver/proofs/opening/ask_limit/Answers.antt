@@ -1,14 +1,14 @@
-use Rattle.std.proofs.Common.{◌≡◌, ℕ, ◌<◌, ◌≤◌, cond, ltb, leb, List, [], ◌∷◌, length, get_or, Some, None, sym, refl, ap, ◌∙◌, arith}
+use Rattle.std.proofs.Common.{◌≡◌, ℕ, ◌<◌, ◌≤◌, cond, List, [], ◌∷◌, length, get_or, Some, None, sym, refl, ap, arith}
 use Rattle.std.proofs.lemmas.Result.{err_from_is_err_and}
 use Rattle.std.proofs.lemmas.Bool.{lt-ltb, le-ltb, le-leb, lt-leb}
 use Rattle.scheme.specs.declared.faults.Layer.TheVariants.{Call}
 use Rattle.scheme.specs.Bounds.{greatest_limit}
-use Rattle.scheme.specs.Questions.{Question, first_no, book_questions}
+use Rattle.scheme.specs.Questions.{Question, book_questions}
 use Rattle.scheme.specs.Refusals.{refused}
 use Rattle.scheme.specs.Scheme.{Scheme, no_reach}
 use Rattle.scheme.proofs.Asked.{refuses, passes, refuses_all, passes_all}
 use Rattle.scheme.proofs.Finds.{field_read}
-use Rattle.solver.specs.Calls.{ask_reach, limit_asked, ask_flow, limit_questions}
+use Rattle.solver.specs.Calls.{ask_reach, limit_asked, ask_flow}
 use Rattle.solver.proofs.opening.ask_limit.Goals as goal
 
 abbrev later : Scheme → ℕ → ℕ → List Question

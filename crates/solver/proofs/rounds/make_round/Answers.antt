@@ -1,4 +1,4 @@
-use Rattle.std.proofs.Common.{◌≡◌, cond, eqb, ap, ◌∙◌}
+use Rattle.std.proofs.Common.{cond, eqb, ap, ◌∙◌}
 use Rattle.flows.specs.Push.{push}
 use Rattle.solver.proofs.Ordered.{order_is, order_listed, places_are, order_made, tables_are}
 use Rattle.solver.proofs.rounds.make_round.Goals as goal

@@ -1,5 +1,5 @@
-use Rattle.std.proofs.Common.{◌≡◌, [], ◌∷◌, length, sym, ◌∙◌, subst, arith}
-use Rattle.solver.specs.Calls.{AllYes, RoundMade, ordering_questions, round_questions}
+use Rattle.std.proofs.Common.{[], ◌∷◌, length, sym, ◌∙◌, subst, arith}
+use Rattle.solver.specs.Calls.{AllYes, RoundMade, ordering_questions}
 use Rattle.solver.specs.Work.{work_of}
 use Rattle.solver.proofs.Holding.{ready}
 use Rattle.solver.proofs.OwnLaws.{round_keeps}

@@ -1,4 +1,4 @@
-use Rattle.std.proofs.Common.{◌≡◌, ◌≤◌, [], ◌∷◌, length, pos, Some, None, unwrap_or, sym, refl, ap, ◌∙◌, subst, arith, w64, SFits, rules}
+use Rattle.std.proofs.Common.{◌≡◌, [], ◌∷◌, length, pos, Some, None, unwrap_or, sym, refl, ap, ◌∙◌, subst, arith, w64, SFits, rules}
 use Rattle.std.proofs.lemmas.Result.{err_from_is_err_and}
 use Rattle.std.proofs.lemmas.Bool.{cond-true, le-leb}
 use Rattle.std.proofs.lemmas.Int.{to_z-of_z}

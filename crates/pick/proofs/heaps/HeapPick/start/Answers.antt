@@ -1,6 +1,5 @@
 use Rattle.std.proofs.Common.{◌≡◌, ◌≤◌, false, leb, sym, refl, ap, ◌∙◌, arith}
 use Rattle.std.proofs.lemmas.Bool.{lt-leb}
-use Rattle.scheme.specs.Bounds.{most_points}
 use Rattle.pick.specs.Keys.{size}
 use Rattle.pick.specs.Calls.{started}
 use Rattle.pick.specs.Trees.{key_at, place_of, held_in}

@@ -1,4 +1,4 @@
-use Rattle.std.proofs.Common.{ℕ, replicate, arith}
+use Rattle.std.proofs.Common.{replicate, arith}
 use Rattle.std.proofs.lemmas.List.{length-replicate}
 use Rattle.pick.specs.declared.trees.Entry.{Entry}
 use Rattle.pick.specs.declared.trees.Tree.{Tree}

@@ -1,4 +1,4 @@
-use Rattle.std.proofs.Common.{◌≡◌, ◌<◌, length, set, Some, ap, ◌∙◌, arith}
+use Rattle.std.proofs.Common.{◌≡◌, set, Some, ap, ◌∙◌, arith}
 use Rattle.std.proofs.lemmas.List.{get_or-set_same, get_or-set_other}
 use Rattle.pick.specs.declared.trees.Entry.{Entry}
 use Rattle.pick.specs.declared.trees.Tree.{Tree}

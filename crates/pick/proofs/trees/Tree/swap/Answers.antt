@@ -1,7 +1,7 @@
 use Rattle.std.proofs.Common.{◌≡◌, sym, refl, ap, ◌∙◌}
 use Rattle.pick.specs.declared.trees.Entry.{Entry}
 use Rattle.pick.specs.declared.trees.Tree.{Tree}
-use Rattle.pick.specs.Trees.{entry_at, point_at, key_at, place_of, Exchanged}
+use Rattle.pick.specs.Trees.{point_at, key_at, place_of, Exchanged}
 use Rattle.pick.proofs.Links.{swap_links, swap_held}
 use Rattle.pick.proofs.trees.Tree.swap.Goals as goal
 

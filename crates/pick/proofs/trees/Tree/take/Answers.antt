@@ -1,7 +1,7 @@
-use Rattle.std.proofs.Common.{◌≡◌, ℕ, ◌-◌, ◌<◌, ◌≤◌, set, None, sym, ap, ◌∙◌, subst, arith}
+use Rattle.std.proofs.Common.{◌≡◌, ◌-◌, ◌<◌, set, None, sym, ap, ◌∙◌, subst, arith}
 use Rattle.std.proofs.lemmas.List.{get_or-set_same, get_or-set_other}
 use Rattle.pick.specs.declared.trees.Tree.{Tree}
-use Rattle.pick.specs.Keys.{Outside, NoneGreater}
+use Rattle.pick.specs.Keys.{Outside}
 use Rattle.pick.specs.Trees.{point_at, key_at, place_of, held_in}
 use Rattle.pick.proofs.Links.{entry_outside, outside_key, outside_used, drop_held}
 use Rattle.pick.proofs.Order.{top_greatest}
