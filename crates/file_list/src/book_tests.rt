@@ -27,7 +27,7 @@ fn reach(tail: u16, head: u16, limit: u32) -> Reach {
     }
 }
 
-fn example_rows(heap: Global) -> Result<Vec<Reach>, AllocError> {
+pub(crate) fn example_rows(heap: Global) -> Result<Vec<Reach>, AllocError> {
     Ok(vec![in heap;
         reach(0, 1, 5),
         reach(0, 2, 4),
@@ -45,7 +45,7 @@ fn same_fields(rt: &impl Abort, a: &impl Register, b: &impl Register, reach: usi
 }
 
 // Every read of the one answers as the other's, past the list too.
-fn same_reads(rt: &impl Abort, a: &impl Register, b: &impl Register) {
+pub(crate) fn same_reads(rt: &impl Abort, a: &impl Register, b: &impl Register) {
     assert_eq!(rt; a.points(), b.points());
     assert_eq!(rt; a.inlet(), b.inlet());
     assert_eq!(rt; a.outlet(), b.outlet());
@@ -57,7 +57,7 @@ fn same_reads(rt: &impl Abort, a: &impl Register, b: &impl Register) {
     same_fields(rt, a, b, usize::MAX);
 }
 
-fn same_writes(rt: &impl Abort, a: &mut impl Book, b: &mut impl Book, reach: usize) {
+pub(crate) fn same_writes(rt: &impl Abort, a: &mut impl Book, b: &mut impl Book, reach: usize) {
     assert_eq!(rt;
         a.set_flow(reach, 4294967295),
         b.set_flow(reach, 4294967295)

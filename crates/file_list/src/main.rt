@@ -8,7 +8,11 @@ use std::{env, fs, io};
 #[cfg(test)]
 mod book_tests;
 #[cfg(test)]
+mod clearing_tests;
+#[cfg(test)]
 mod refusal_tests;
+#[cfg(test)]
+mod view_tests;
 
 fn print_part(rt: &HostRuntime, part: &Part<'_>) -> io::Result<()> {
     let place = part.place();

@@ -83,7 +83,7 @@ module _ (bs : List ℕ) (bytes : Bytes bs) where
       ∙ ap (λ l. row_bytes (row_at bs (row_place q a)) ++ l) (rows_from_lem q (a + 1) n e (omega arith) within)
       ∙ sym (append_assoc (row_bytes (row_at bs (row_place q a))) (flat_map row_bytes (map (λ k. row_at bs (row_place q k)) (range_with_len (a + 1) n))) (drop e bs))
 
-  rows_fit : (q a n : ℕ) → AllByRecursion RowFits (map (λ k. row_at bs (row_place q k)) (range_with_len a n))
+  pub rows_fit : (q a n : ℕ) → AllByRecursion RowFits (map (λ k. row_at bs (row_place q k)) (range_with_len a n))
   rows_fit q a zero = tt
   rows_fit q a (suc n) =
       let p = q + 12 * a in (

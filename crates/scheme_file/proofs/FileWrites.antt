@@ -1,14 +1,17 @@
 -- What a number written into a row of a file leaves.
-use Rattle.std.proofs.Common.{◌≡◌, ℕ, ◌+◌, ◌*◌, ◌^◌, ◌<◌, ◌≤◌, cond, ◌&&◌, leb, ◌⊎◌, List, length, get_or, sym, refl, ap, ◌∙◌, subst, inl, ⊎_elim, arith}
+use Rattle.std.proofs.Common.{◌≡◌, ℕ, ◌+◌, ◌*◌, ◌^◌, ◌<◌, ◌≤◌, cond, ◌&&◌, leb, ◌⊎◌, List, [], ◌∷◌, length, get_or, sym, refl, ap, ◌∙◌, subst, inl, ⊎_elim, arith}
 use Rattle.std.proofs.lemmas.Bool.{cases_lt, cond_below, cond_above}
 use Rattle.std.proofs.lemmas.Bool.Decides.{nat_tests}
+use Rattle.std.specs.Borrow.{GName}
+use Rattle.scheme.specs.Kept.{Kept}
 use Rattle.scheme.specs.Scheme.{Scheme, changed, over}
 use Rattle.scheme.proofs.Writes.{changed_past}
 use Rattle.scheme_file.specs.declared.files.SchemeFile.{SchemeFile}
 use Rattle.scheme_file.specs.Asked.{end_at, length_at, block_of_rows}
-use Rattle.scheme_file.specs.Files.{Accepted, file_bytes, file_scheme, held_in, held_rows, row_patched}
+use Rattle.scheme_file.specs.Files.{Accepted, besides, file_bytes, file_kept, file_scheme, held_in, held_rows, row_patched}
 use Rattle.scheme_file.specs.Reading.{Bytes}
 use Rattle.scheme_file.specs.Rows.{row_place, scheme_at, patched}
+use Rattle.scheme_file.proofs.Besides.{besides_stay}
 use Rattle.scheme_file.proofs.Fields.{file_reaches}
 use Rattle.scheme_file.proofs.Patches.{length_patched, patched_below, patched_above, patched_bytes}
 use Rattle.scheme_file.proofs.RowWrites.{Field, scheme_after}
@@ -26,6 +29,28 @@ held_most bs rows count = grind (arith, nat_tests)
 -- the meaning hangs on the bytes, the place and the count alone
 abbrev scheme_in : List ℕ → ℕ → ℕ → Scheme
 scheme_in bs rows count = scheme_at bs rows (held_in bs rows count)
+
+-- what is kept hangs on them and on the loan
+abbrev kept_in : List ℕ → ℕ → ℕ → GName → Kept
+kept_in bs rows count loan =
+    record {
+      numbers = rows ∷ count ∷ length bs ∷ besides bs rows (held_in bs rows count);
+      loans = loan ∷ [];
+    }
+
+kept_put :
+    (field : Field) (bs : List ℕ) (rows count reach x : ℕ) (loan : GName) → reach < held_in bs rows count
+    → kept_in (patched bs (row_place rows reach + field.offset) x) rows count loan ≡ kept_in bs rows count loan
+kept_put field bs rows count reach x loan within =
+    let lie = held_lie bs rows count reach within in
+    let put = patched bs (row_place rows reach + field.offset) x in
+    let level : length put ≡ length bs =
+    length_patched bs (row_place rows reach + field.offset) x (omega (arith, field.small, lie.1)) in
+    let held : held_in put rows count ≡ held_in bs rows count = rw level refl in
+    let rest : besides put rows (held_in put rows count) ≡ besides bs rows (held_in bs rows count) =
+    ap (besides put rows) held
+    ∙ besides_stay bs rows (held_in bs rows count) reach field.offset x within lie.1 field.past_ends field.small in
+    cc
 
 module _ (field : Field) (f g : SchemeFile) (reach x : ℕ) (fits : x < 2 ^ 32)
     (bytes : file_bytes g ≡ row_patched f reach field.offset x) (rows : g.rows ≡ f.rows)
@@ -90,3 +115,20 @@ module _ (field : Field) (f g : SchemeFile) (reach x : ℕ) (fits : x < 2 ^ 32)
 
   pub stays_accepted : Accepted f → Accepted g
   stays_accepted ok = ⊎_elim (stays_within ok) (stays_past ok) (cases_lt reach (held_rows f))
+
+  pub file_keeps : g.bytes.ghost_name ≡ f.bytes.ghost_name → file_kept g ≡ file_kept f
+  file_keeps loan =
+      let bs = row_patched f reach field.offset x in
+      ap (λ l. kept_in (file_bytes g) g.rows g.count l) loan
+      ∙ ap (λ b. kept_in b g.rows g.count f.bytes.ghost_name) bytes
+      ∙ ap (λ p. kept_in bs p g.count f.bytes.ghost_name) rows
+      ∙ ap (λ n. kept_in bs f.rows n f.bytes.ghost_name) count
+      ∙ ⊎_elim
+      (λ within.
+      ap (λ b. kept_in b f.rows f.count f.bytes.ghost_name)
+      (sym (cond_below reach (held_rows f) (patched (file_bytes f) (row_place f.rows reach + field.offset) x) (file_bytes f) within))
+      ∙ kept_put field (file_bytes f) f.rows f.count reach x f.bytes.ghost_name within)
+      (λ past.
+      ap (λ b. kept_in b f.rows f.count f.bytes.ghost_name)
+      (sym (cond_above reach (held_rows f) _ (file_bytes f) (file_bytes f) past refl)))
+      (cases_lt reach (held_rows f))

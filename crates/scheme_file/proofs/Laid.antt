@@ -6,7 +6,7 @@ use Rattle.std.proofs.lemmas.Bool.{and_from, eq-eqb, le-leb, ne_eqb}
 use Rattle.scheme.specs.declared.rows.Reach.{Reach}
 use Rattle.scheme.specs.Scheme.{Scheme}
 use Rattle.scheme_file.specs.Asked.{ask_record, inside, known, headed, rowed, block_of_rows, end_at, length_at, kind_at}
-use Rattle.scheme_file.specs.Layout.{FileRecord, head, rows, note, kind_of, body_of, row_bytes, record_bytes, Contents, FileOf, RowFits, contents_scheme}
+use Rattle.scheme_file.specs.Layout.{FileRecord, head, rows, note, kind_of, body_of, row_bytes, record_bytes, Contents, FileOf, RowFits, contents_scheme, front_bytes}
 use Rattle.scheme_file.specs.Numbers.{two, four, two_at, four_at}
 use Rattle.scheme_file.specs.Rows.{row_at, rows_at, scheme_at}
 use Rattle.scheme_file.proofs.RowLists.{length_rows, get_d_rows}
@@ -155,12 +155,9 @@ rows_read (r ∷ rs) bs pre rest laid fit (suc k) d below =
     sym (ap (λ n. n + 12 * k) (length-append pre (row_bytes r)) ∙ omega arith) in
     ap (row_at bs) place ∙ rows_read rs bs (pre ++ row_bytes r) rest here fit.1 k d (omega arith)
 
--- the head's bytes, those before the row block, and the row block's
+-- the head's bytes and the row block's
 abbrev pub head_bytes : Contents → List ℕ
 head_bytes c = record_bytes (head c.points c.inlet c.outlet)
-
-abbrev pub front_bytes : Contents → List ℕ
-front_bytes c = head_bytes c ++ notes_bytes c.before
 
 abbrev pub block_bytes : Contents → List ℕ
 block_bytes c = record_bytes (rows c.reaches)
@@ -172,7 +169,7 @@ module _ (bs : List ℕ) (c : Contents) (file : FileOf bs c) where
       file.laid
       ∙ ap (λ l. head_bytes c ++ l) (joined_append record_bytes (map note c.before) (rows c.reaches ∷ map note c.after))
 
-  laid_block : bs ≡ front_bytes c ++ (block_bytes c ++ notes_bytes c.after)
+  pub laid_block : bs ≡ front_bytes c ++ (block_bytes c ++ notes_bytes c.after)
   laid_block =
       laid_out ∙ sym (append_assoc (head_bytes c) (notes_bytes c.before) (block_bytes c ++ notes_bytes c.after))
 
@@ -196,12 +193,17 @@ module _ (bs : List ℕ) (c : Contents) (file : FileOf bs c) where
       omega (arith, ap length (laid_block ∙ sym (append_assoc (front_bytes c) (block_bytes c) a))) in
       walking_all bs _ _ w4 file.short all
 
-  laid_count : length_at bs (length (front_bytes c)) / 12 ≡ length c.reaches
+  pub laid_size : length_at bs (length (front_bytes c)) ≡ 12 * length c.reaches
+  laid_size =
+      length_here bs (front_bytes c) (notes_bytes c.after) (rows c.reaches) laid_block file.short
+      ∙ length_rows_bytes c.reaches
+
+  pub laid_count : length_at bs (length (front_bytes c)) / 12 ≡ length c.reaches
   laid_count =
       let size = length_here bs (front_bytes c) (notes_bytes c.after) (rows c.reaches) laid_block file.short in
       omega (arith, size, length_rows_bytes c.reaches)
 
-  laid_rows : rows_at bs (length (front_bytes c) + 6) (length c.reaches) ≡ c.reaches
+  pub laid_rows : rows_at bs (length (front_bytes c) + 6) (length c.reaches) ≡ c.reaches
   laid_rows =
       let size = four (length (flat_map row_bytes c.reaches)) ++ two 2 in
       let here : bs ≡ (front_bytes c ++ size) ++ (flat_map row_bytes c.reaches ++ notes_bytes c.after) =

@@ -9,4 +9,7 @@ pub mod FileWrites
 pub mod Laid
 pub mod Cut
 pub mod Meaning
+pub mod Besides
+pub mod Relaid
+pub mod WithoutFlow
 pub mod PartRecords

@@ -13,6 +13,7 @@ use Rattle.scheme_file.proofs.RowLists.{length_rows, get_d_rows}
 pub record Field : Type 0 where
   pub offset : ℕ
   pub edit : ℕ → Reach → Reach
+  pub past_ends : 4 ≤ offset
   pub small : offset ≤ 8
   pub here :
       (bs : List ℕ) (p x : ℕ) → p + 12 ≤ length bs → x < 2 ^ 32
@@ -28,6 +29,7 @@ limit_field =
     record {
       offset = 4;
       edit = limited;
+      past_ends = omega arith;
       small = omega arith;
       here =
           λ bs p x holds fits.
@@ -43,6 +45,7 @@ flow_field =
     record {
       offset = 8;
       edit = flowing;
+      past_ends = omega arith;
       small = omega arith;
       here =
           λ bs p x holds fits.

@@ -45,6 +45,25 @@ abbrev pub records : Contents → List FileRecord
 records c =
     head c.points c.inlet c.outlet ∷ (map note c.before ++ rows c.reaches ∷ map note c.after)
 
+-- the bytes before the block of rows, and the place of the first row, behind the block's length and kind
+abbrev pub front_bytes : Contents → List ℕ
+front_bytes c = flat_map record_bytes (head c.points c.inlet c.outlet ∷ map note c.before)
+
+abbrev pub rows_begin : Contents → ℕ
+rows_begin c = length (front_bytes c) + 6
+
+-- the same head and notes about other reaches
+abbrev pub with_reaches : Contents → List Reach → Contents
+with_reaches c reaches =
+    record {
+      points = c.points;
+      inlet = c.inlet;
+      outlet = c.outlet;
+      before = c.before;
+      reaches = reaches;
+      after = c.after;
+    }
+
 -- the numbers of a row fit their bytes
 pub record RowFits (r : Reach) : Type 0 where
   pub tail : r.tail < 2 ^ 16

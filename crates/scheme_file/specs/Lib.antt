@@ -5,3 +5,4 @@ pub mod Reading
 pub mod Rows
 pub mod Files
 pub mod Layout
+pub mod Clearing

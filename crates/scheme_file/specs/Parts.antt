@@ -1,5 +1,5 @@
 -- What a part of a file is: its kind, its place and the values that stand there.
-use Rattle.std.specs.Prelude.{◌≡◌, ℕ, ◌+◌, ◌/◌, min, List, length}
+use Rattle.std.specs.Prelude.{◌≡◌, ℕ, ◌+◌, ◌/◌, min, List, length, Some, None, Option}
 use Rattle.std.specs.List.{between}
 use Rattle.scheme_file.specs.declared.parts.Part.{Part}
 use Rattle.scheme_file.specs.declared.parts.Part.TheVariants.{Head, Rows, Note}
@@ -27,6 +27,22 @@ part_size (Note at bytes) = length bytes.now
 -- where the next record begins, as far as a place has a number
 abbrev pub end_of_part : Part → ℕ
 end_of_part part = min (part_place part + 6 + part_size part) 18446744073709551615
+
+-- the numbers of a head, which no other part has
+abbrev pub part_points : Part → Option ℕ
+part_points (Head at points inlet outlet) = Some points
+part_points (Rows at bytes) = None
+part_points (Note at bytes) = None
+
+abbrev pub part_inlet : Part → Option ℕ
+part_inlet (Head at points inlet outlet) = Some inlet
+part_inlet (Rows at bytes) = None
+part_inlet (Note at bytes) = None
+
+abbrev pub part_outlet : Part → Option ℕ
+part_outlet (Head at points inlet outlet) = Some outlet
+part_outlet (Rows at bytes) = None
+part_outlet (Note at bytes) = None
 
 -- its values are those of the file's bytes from a place on
 abbrev pub ValuesAt : List ℕ → ℕ → Part → Type 0

@@ -1,5 +1,6 @@
 // A scheme file used where it lies: the bytes are lent, and what reading found stands beside them.
 mod book;
+mod lending;
 mod opening;
 
 #[derive(Drop)]

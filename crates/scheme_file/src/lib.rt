@@ -1,10 +1,15 @@
-// Scheme files: a run of records, read, refused with a place, and used where they lie as a book.
+// Scheme files: a run of records, read, refused with a place, and used where they lie as a register or a book.
 #![tactic(auto)]
 
+pub mod clearing;
 pub mod files;
 mod numbers;
 pub mod parts;
-mod reading;
+pub mod reading;
+pub mod views;
 
+pub use clearing::clear_file;
 pub use files::SchemeFile;
 pub use parts::{Part, part_at};
+pub use reading::{Found, read};
+pub use views::SchemeView;

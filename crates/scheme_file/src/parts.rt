@@ -3,6 +3,7 @@ ghost use Rattle.std.specs.Prelude.{◌≡◌, ◌+◌, ◌<◌, ◌≤◌, leng
 ghost use Rattle.scheme.specs.Refusals.{file_refusal, refusal_of};
 ghost use Rattle.scheme_file.specs.Asked.{ask_record};
 ghost use Rattle.scheme_file.specs.Parts.{PartAt, end_of_part, part_kind, part_place, part_size};
+ghost use Rattle.scheme_file.specs.Parts.{part_inlet, part_outlet, part_points};
 
 use crate::numbers::{get_u16, get_u32};
 use scheme::FileFault;
@@ -81,6 +82,34 @@ impl Part<'_> {
         self.place()
             .saturating_add(HEADER)
             .saturating_add(self.size())
+    }
+
+    // The numbers of a head; no other part has them.
+    pub fn points(&self) -> Option<u16>
+        ensures { result ≡ part_points self.now }
+    {
+        match self {
+            Part::Head { points, .. } => Some(*points),
+            Part::Rows { .. } | Part::Note { .. } => None,
+        }
+    }
+
+    pub fn inlet(&self) -> Option<u16>
+        ensures { result ≡ part_inlet self.now }
+    {
+        match self {
+            Part::Head { inlet, .. } => Some(*inlet),
+            Part::Rows { .. } | Part::Note { .. } => None,
+        }
+    }
+
+    pub fn outlet(&self) -> Option<u16>
+        ensures { result ≡ part_outlet self.now }
+    {
+        match self {
+            Part::Head { outlet, .. } => Some(*outlet),
+            Part::Rows { .. } | Part::Note { .. } => None,
+        }
     }
 }
 

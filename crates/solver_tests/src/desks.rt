@@ -68,20 +68,21 @@ impl<P: Pick> Desk<P> {
     // A cut that answers this capacity and these marks, with the byte behind them untouched.
     pub(crate) fn cuts<R: Register>(
         &mut self,
+        rt: &impl Abort,
         register: &R,
         capacity: u64,
         marks: &[u8],
     ) -> Result<(), Fail> {
-        assert_eq!(self.cut(register), Ok(capacity));
-        begins_with(self.marks.as_slice(), marks)
+        assert_eq!(rt; self.cut(register), Ok(capacity));
+        begins_with(rt, self.marks.as_slice(), marks)
     }
 }
 
 // The table begins so, and is as it was from there on.
-pub(crate) fn begins_with(table: &[u8], begin: &[u8]) -> Result<(), Fail> {
-    assert!(begin.len() <= table.len());
+pub(crate) fn begins_with(rt: &impl Abort, table: &[u8], begin: &[u8]) -> Result<(), Fail> {
+    assert!(rt; begin.len() <= table.len());
     for (i, entry) in table.iter().enumerate() {
-        assert_eq!(*entry, begin.get(i).copied().unwrap_or(OLD));
+        assert_eq!(rt; *entry, begin.get(i).copied().unwrap_or(OLD));
     }
     Ok(())
 }

@@ -49,7 +49,7 @@ fn settled<B: Book, P: Pick>(
     short_begins_with(rt, desk.order.as_slice(), &[0, 1, 2, 3])?;
     short_begins_with(rt, desk.place.as_slice(), &[0, 1, 2, 65_535])?;
     needs_begin_with(rt, desk.need.as_slice(), &[0, 0, 0, 0])?;
-    desk.cuts(book, 8, &[1, 1, 1, 0])
+    desk.cuts(rt, book, 8, &[1, 1, 1, 0])
 }
 
 // On the settled example: limit 5 on the last reach is under its flow, 6 is taken, and 7 makes room for one round.
@@ -69,7 +69,7 @@ fn widened<B: Book, P: Pick>(
         })
     );
     flows_are(rt, book, &[5, 4, 3, 2, 7])?;
-    desk.cuts(book, 9, &[1, 0, 0, 0])
+    desk.cuts(rt, book, 9, &[1, 0, 0, 0])
 }
 
 fn all<B: Book, P: Pick>(rt: &impl Abort, book: &mut B, desk: &mut Desk<P>) -> Result<(), Fail> {

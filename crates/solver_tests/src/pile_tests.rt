@@ -19,7 +19,7 @@ fn turned<B: Book + Drop>(rt: &impl Abort, heap: Global, below: B) -> Result<(),
     let told = desk.settle(&mut book)?;
     assert_eq!(rt; told.value, 9);
     flows_are(rt, book.below(), &[5, 4, 3, 2, 7])?;
-    desk.cuts(&book, 9, &[0, 0, 0, 1])
+    desk.cuts(rt, &book, 9, &[0, 0, 0, 1])
 }
 
 // Point 2 passes only 5, so that 7 is the most; the pinch is reaches 3 and the gate of point 2.
@@ -29,7 +29,7 @@ fn junction<B: Book + Drop>(rt: &impl Abort, heap: Global, below: B) -> Result<(
     open(&mut book)?;
     let told = desk.settle(&mut book)?;
     assert_eq!(rt; told.value, 7);
-    desk.cuts(&book, 7, &[1, 1, 1, 0, 1, 1, 0, 0])
+    desk.cuts(rt, &book, 7, &[1, 1, 1, 0, 1, 1, 0, 0])
 }
 
 // Both, one over the other, and turned again.

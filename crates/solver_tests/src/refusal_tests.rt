@@ -27,7 +27,7 @@ fn untouched(rt: &impl Abort, desk: &mut Desk<Scan>) -> Result<(), Fail> {
     short_begins_with(rt, desk.order.as_slice(), &[])?;
     short_begins_with(rt, desk.place.as_slice(), &[])?;
     needs_begin_with(rt, desk.need.as_slice(), &[])?;
-    begins_with(desk.marks.as_slice(), &[])?;
+    begins_with(rt, desk.marks.as_slice(), &[])?;
     assert_eq!(rt; desk.pick.take(), Some((1, 3)));
     given_a_point(desk)
 }

@@ -19,7 +19,7 @@ fn no_reach(rt: HostRuntime) -> Result<(), Fail> {
             rounds: 0,
         })
     );
-    desk.cuts(&book, 0, &[1, 0])
+    desk.cuts(&rt, &book, 0, &[1, 0])
 }
 
 // Two reaches side by side count for one key.

@@ -6,9 +6,7 @@ ghost use Rattle.scheme_file.specs.Layout.{Means, NoFile};
 ghost use Rattle.scheme_file.specs.Files.{Accepted, file_bytes, file_scheme};
 
 use crate::files::SchemeFile;
-use crate::numbers::get_u32;
-use crate::parts::{HEADER, ROW_SIZE};
-use crate::reading::row_block;
+use crate::reading::read;
 use scheme::{BookFault, FileFault};
 
 impl<'a> SchemeFile<'a> {
@@ -18,10 +16,8 @@ impl<'a> SchemeFile<'a> {
         ensures accepted { IfOk result Accepted }
         ensures means { MatchResult result (λ f. Means bytes.old (file_scheme f)) (λ _. NoFile bytes.old) }
     {
-        let block = row_block(bytes)?;
-        let count = get_u32(bytes, block) / ROW_SIZE as u32;
-        let rows = (block + HEADER) as u32;
-        Ok(SchemeFile { bytes, rows, count })
+        let found = read(bytes)?;
+        Ok(SchemeFile::lend(bytes, found))
     }
 
     // The same for a caller whose faults are a book's.
@@ -43,7 +39,9 @@ impl<'a> SchemeFile<'a> {
     }
 
     pub fn into_bytes(self) -> &'a mut [u8]
-        ensures { result.now ≡ file_bytes self.entry }
+        ensures value { result.now ≡ file_bytes self.entry }
+        ensures loan { result.ghost_name ≡ self.entry.bytes.ghost_name }
+        ensures means { Accepted self.entry → Means result.now (file_scheme self.entry) }
     {
         let SchemeFile {
             bytes,

@@ -16,6 +16,7 @@ returns-in_default c =
       bytes = cond_above c.args.reach (held_rows f) _ _ _ past refl;
       rows = refl;
       count = refl;
+      loan = refl;
     }
 
 pub returns : goal.returns
@@ -30,4 +31,5 @@ returns c =
           ∙ cond_below c.args.reach (held_rows f) _ _ found.0;
       rows = refl;
       count = refl;
+      loan = refl;
     }

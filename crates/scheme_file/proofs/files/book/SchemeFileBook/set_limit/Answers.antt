@@ -1,5 +1,5 @@
 use Rattle.std.proofs.Common.{◌^◌, ◌<◌}
-use Rattle.scheme_file.proofs.FileWrites.{file_after, stays_accepted}
+use Rattle.scheme_file.proofs.FileWrites.{file_after, file_keeps, stays_accepted}
 use Rattle.scheme_file.proofs.RowWrites.{limit_field}
 use Rattle.scheme_file.proofs.files.book.SchemeFileBook.set_limit.Goals as goal
 
@@ -12,6 +12,7 @@ returns c =
     record {
       answer = e.answer;
       after = file_after limit_field f g c.args.reach c.args.limit fits e.bytes e.rows e.count;
+      kept = file_keeps limit_field f g c.args.reach c.args.limit fits e.bytes e.rows e.count e.loan;
       bytes = e.bytes;
       stays = stays_accepted limit_field f g c.args.reach c.args.limit fits e.bytes e.rows e.count;
     }

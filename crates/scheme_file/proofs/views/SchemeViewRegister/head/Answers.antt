@@ -1,0 +1,18 @@
+use Rattle.std.proofs.Common.{◌+◌, Some, sym, ap, ◌∙◌}
+use Rattle.scheme_file.specs.Files.{view_bytes}
+use Rattle.scheme_file.specs.Numbers.{two_at}
+use Rattle.scheme_file.proofs.Fields.{field_at, field_past}
+use Rattle.scheme_file.proofs.views.SchemeViewRegister.head.Goals as goal
+
+pub returns-in_err-row : goal.returns-in_err-row
+returns-in_err-row c =
+    let view = c.args.self.now in
+    c.from_residual.ensures
+    ∙ sym (field_past (view_bytes view) view.found (λ r. r.head) c.args.reach c.in_err-row.ensures)
+
+pub returns : goal.returns
+returns c =
+    let view = c.args.self.now in
+    let found = c.in_ok-row.ensures in
+    ap Some (c.get_u16.ensures ∙ ap (λ row. two_at (view_bytes view) (row + 2)) found.1)
+    ∙ sym (field_at (view_bytes view) view.found (λ r. r.head) c.args.reach found.0)
