@@ -1,7 +1,7 @@
 -- The order of a heap's keys by place, while one entry climbs or sinks.
 use Rattle.std.proofs.Common.{◌≡◌, ℕ, zero, suc, ◌+◌, ◌<◌, ◌≤◌, None, sym, ap, subst, ⊎_elim, arith}
 use Rattle.std.proofs.lemmas.Bool.{cases_eq}
-use Rattle.pick.specs.Trees.{above, below, Ordered, Climbing, Sinking, Exchanged, Smaller, Greater, GreaterBelow}
+use Rattle.pick.specs.Trees.{above, below, Ordered, Climbing, Sinking, Exchanged, Smaller, Greater, GreaterChild}
 
 -- a place right below another is one of two
 pub below_second : (i at : ℕ) → 0 < i → above i ≡ at → (i ≡ below at → ⊥) → i ≡ below at + 1
@@ -26,7 +26,7 @@ climb_ends k n at climbing le i lower within =
     (λ other. climbing.others i lower within other)
     (cases_eq i at)
 
-pub sink_ends : (k : ℕ → ℕ) (n at : ℕ) → Sinking k n at → GreaterBelow k n at None → Ordered k n
+pub sink_ends : (k : ℕ → ℕ) (n at : ℕ) → Sinking k n at → GreaterChild k n at None → Ordered k n
 sink_ends k n at sinking le i lower within =
     ⊎_elim
     (λ same. subst (λ j. k i ≤ k j) (sym same) (le i lower within same))

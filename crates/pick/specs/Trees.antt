@@ -108,18 +108,18 @@ pub record Greatest (key : ℕ → ℕ) (n at c : ℕ) : Type 0 where
   pub most : (i : ℕ) → 0 < i → i < n → above i ≡ at → key i ≤ key c
 
 -- the place below with the greatest key, if any is in use
-abbrev pub GreatestBelow : (ℕ → ℕ) → ℕ → ℕ → Option ℕ → Type 0
-GreatestBelow key n at None = (i : ℕ) → 0 < i → i < n → above i ≢ at
-GreatestBelow key n at (Some c) = Greatest key n at c
+abbrev pub GreatestChild : (ℕ → ℕ) → ℕ → ℕ → Option ℕ → Type 0
+GreatestChild key n at None = (i : ℕ) → 0 < i → i < n → above i ≢ at
+GreatestChild key n at (Some c) = Greatest key n at c
 
 pub record Greater (key : ℕ → ℕ) (n at c : ℕ) : Type 0 where
   pub greatest : Greatest key n at c
   pub more : key at < key c
 
 -- the place below with the greatest key, if that is greater than the one at the place
-abbrev pub GreaterBelow : (ℕ → ℕ) → ℕ → ℕ → Option ℕ → Type 0
-GreaterBelow key n at None = (i : ℕ) → 0 < i → i < n → above i ≡ at → key i ≤ key at
-GreaterBelow key n at (Some c) = Greater key n at c
+abbrev pub GreaterChild : (ℕ → ℕ) → ℕ → ℕ → Option ℕ → Type 0
+GreaterChild key n at None = (i : ℕ) → 0 < i → i < n → above i ≡ at → key i ≤ key at
+GreaterChild key n at (Some c) = Greater key n at c
 
 -- the entry of an outside point is at place i
 pub record Found (t : Tree) (v i : ℕ) : Type 0 where

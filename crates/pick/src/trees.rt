@@ -3,7 +3,7 @@ ghost use Rattle.std.specs.Prelude.{◌≡◌, ◌<◌, ◌≤◌, length, Some,
 ghost use Rattle.scheme.specs.Bounds.{most_points};
 ghost use Rattle.pick.specs.Calls.{started, Taken};
 ghost use Rattle.pick.specs.Trees.{above, below, point_at, key_at, held_in, Linked, Lawful, Climbing, Sinking};
-ghost use Rattle.pick.specs.Trees.{Exchanged, SmallerAbove, GreatestBelow, GreaterBelow, PlaceFound};
+ghost use Rattle.pick.specs.Trees.{Exchanged, SmallerAbove, GreatestChild, GreaterChild, PlaceFound};
 
 pub(crate) const SIZE: usize = 512;
 
@@ -156,7 +156,7 @@ impl Tree {
     fn first_child(&self, place: usize) -> Option<usize>
         requires linked { Linked self.now }
         requires within { place ≤ self.now.count }
-        ensures { GreatestBelow (key_at self.now) self.now.count place result }
+        ensures { GreatestChild (key_at self.now) self.now.count place result }
     {
         let left = child(place);
         let right = left + 1;
@@ -173,7 +173,7 @@ impl Tree {
     fn overtaking(&self, place: usize) -> Option<usize>
         requires linked { Linked self.now }
         requires within { place ≤ self.now.count }
-        ensures { GreaterBelow (key_at self.now) self.now.count place result }
+        ensures { GreaterChild (key_at self.now) self.now.count place result }
     {
         let down = self.first_child(place)?;
         if before(self.entries[down], self.entries[place]) {
