@@ -41,9 +41,9 @@ RoundGainsWhileThereIsAGap =
 
 -- A round that gains closes the gap by its gain, and by at least a part that the number n of points tells:
 -- `after n` times the gap after it is at most `before n` times the gap before it.
-pub record GapFalls (gain old new oldPart newPart : ℕ) : Type 0 where
+pub record GapFalls (gain old new old_part new_part : ℕ) : Type 0 where
   pub by_gain : old ≡ new + gain
-  pub by_part : newPart * new ≤ oldPart * old
+  pub by_part : new_part * new ≤ old_part * old
 
 abbrev pub RoundsCloseTheGap : (ℕ → ℕ) → (ℕ → ℕ) → Type 0
 RoundsCloseTheGap after before =
