@@ -21,9 +21,7 @@ pub fn marks_of(heap: Global, points: u16, side: &[u16]) -> Result<Vec<u8>, Allo
 fn extent_of(points: u16, side: &[u16]) -> usize
     ensures { result ≡ extent points side.now }
 {
-    let mut extent = usize::from(points);
-    for point in side {
-        extent = extent.max(usize::from(*point) + 1);
-    }
-    extent
+    side.iter().fold(usize::from(points), |extent, point| {
+        extent.max(usize::from(*point) + 1)
+    })
 }

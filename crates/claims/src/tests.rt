@@ -1,5 +1,6 @@
 // Claims about one scheme file, and what the review tells of each.
 use crate::reviewing::{Stop, review};
+use scheme::Refusal;
 use std::alloc::Global;
 use std::test::Fail;
 
@@ -22,7 +23,7 @@ fn told(heap: Global, length: usize, side: &[u16]) -> Result<String, Fail> {
     file.truncate(length);
     match review(heap, file.as_mut_slice(), side) {
         Ok(claim) => Ok(claim.lines(heap)?),
-        Err(Stop::Refused(fault)) => Ok(fault.refusal().line(heap)?),
+        Err(Stop::Refused(fault)) => Ok(Refusal::from(fault).line(heap)?),
         Err(Stop::Memory) => Err(Fail::new("no memory")),
     }
 }

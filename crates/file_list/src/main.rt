@@ -1,8 +1,8 @@
 // Prints scheme files: each record with its place, and then the register that the file is, or how it is refused.
 #![tactic(auto)]
 
-use scheme::{Refusal, Register};
-use scheme_file::{Part, SchemeFile, part_at};
+use scheme::{Reach, Refusal, Register, reach_of};
+use scheme_file::{Part, Parts, SchemeFile};
 use std::{env, fs, io};
 
 #[cfg(test)]
@@ -10,9 +10,13 @@ mod book_tests;
 #[cfg(test)]
 mod clearing_tests;
 #[cfg(test)]
+mod examples;
+#[cfg(test)]
 mod refusal_tests;
 #[cfg(test)]
 mod view_tests;
+#[cfg(test)]
+mod walking_tests;
 
 fn print_part(rt: &HostRuntime, part: &Part<'_>) -> io::Result<()> {
     let place = part.place();
@@ -25,27 +29,10 @@ fn print_part(rt: &HostRuntime, part: &Part<'_>) -> io::Result<()> {
 }
 
 fn print_parts(rt: &HostRuntime, bytes: &[u8]) -> io::Result<()> {
-    let mut at = 0;
-    let mut rows_seen = false;
-    for _ in 0..bytes.len() {
-        let Ok(Some(part)) = part_at(bytes, at, rows_seen) else {
-            break;
-        };
+    for part in Parts::new(bytes).map_while(Result::ok) {
         print_part(rt, &part)?;
-        rows_seen = rows_seen || part.kind() == 2;
-        at = part.end();
     }
     Ok(())
-}
-
-fn print_reach(rt: &HostRuntime, file: &impl Register, reach: usize) -> io::Result<()> {
-    let Some(tail) = file.tail(reach) else {
-        return Ok(());
-    };
-    let head = file.head(reach).unwrap_or(0);
-    let limit = file.limit(reach).unwrap_or(0);
-    let flow = file.flow(reach).unwrap_or(0);
-    println!(rt; "{tail} {head} {limit} {flow}")
 }
 
 fn print_register(rt: &HostRuntime, file: &impl Register) -> io::Result<()> {
@@ -53,16 +40,16 @@ fn print_register(rt: &HostRuntime, file: &impl Register) -> io::Result<()> {
     let inlet = file.inlet();
     let outlet = file.outlet();
     println!(rt; "points {points} inlet {inlet} outlet {outlet}")?;
-    for reach in 0..file.reaches() {
-        print_reach(rt, file, reach)?;
+    for reach in (0..file.reaches()).filter_map(|reach| reach_of(file, reach)) {
+        let Reach {
+            tail,
+            head,
+            limit,
+            flow,
+        } = reach;
+        println!(rt; "{tail} {head} {limit} {flow}")?;
     }
     Ok(())
-}
-
-fn print_refusal(rt: &HostRuntime, refusal: Refusal) -> io::Result<()> {
-    let number = refusal.number;
-    let place = refusal.place;
-    println!(rt; "refused file {number} {place}")
 }
 
 fn print_file(rt: &HostRuntime, name: &str) -> io::Result<()> {
@@ -71,7 +58,7 @@ fn print_file(rt: &HostRuntime, name: &str) -> io::Result<()> {
     print_parts(rt, &bytes)?;
     match SchemeFile::open(&mut bytes) {
         Ok(file) => print_register(rt, &file),
-        Err(fault) => print_refusal(rt, fault.refusal()),
+        Err(fault) => rt.println(Refusal::from(fault)),
     }
 }
 

@@ -1,42 +1,25 @@
 // The example read apart from lending: as a view, and as a file that is lent by what was found.
-use crate::book_tests::{EXAMPLE, example_rows, same_reads, same_writes};
-use scheme::{Book, BookFault, CallFault, FileFault, Register, Table};
+use crate::examples::{agrees_with_table, writes_just_its_fields};
+use scheme::{BookFault, CallFault, FileFault, Refusal, Register};
 use scheme_file::{SchemeFile, SchemeView, part_at, read};
 use std::test::Fail;
+use worked_examples::EXAMPLE_FILE;
 
 #[test]
 fn table_and_lent_file_agree(rt: HostRuntime) -> Result<(), Fail> {
-    let mut table = Table::new(4, 0, 3, example_rows(rt.alloc())?);
-    let mut bytes = *EXAMPLE;
+    let mut bytes = *EXAMPLE_FILE;
     let found = read(&bytes)?;
     let mut file = SchemeFile::lend(&mut bytes, found);
-    assert_eq!(rt; file.reaches(), 5);
-    assert_eq!(rt; file.limit(4), Some(6));
-    same_reads(&rt, &table, &file);
-    for reach in [4, 0, 5, 2, 65536] {
-        same_writes(&rt, &mut table, &mut file, reach);
-        same_reads(&rt, &table, &file);
-        same_reads(&rt, &table, &file.view());
-    }
-    assert_eq!(rt; file.set_flow(5, 1), Err(BookFault::NoReach(5)));
+    agrees_with_table(&rt, rt.alloc(), &mut file)?;
     Ok(())
 }
 
 #[test]
 fn a_write_to_a_lent_file_leaves_every_other_byte(rt: HostRuntime) -> Result<(), Fail> {
-    let mut bytes = *EXAMPLE;
+    let mut bytes = *EXAMPLE_FILE;
     let found = read(&bytes)?;
     let mut file = SchemeFile::lend(&mut bytes, found);
-    assert_eq!(rt; file.set_flow(1, 16909060), Ok(()));
-    let mut want = *EXAMPLE;
-    want[38] = 4;
-    want[39] = 3;
-    want[40] = 2;
-    want[41] = 1;
-    assert_eq!(rt; file.bytes(), want.as_slice());
-    assert_eq!(rt; file.set_limit(4, 0), Ok(()));
-    want[70] = 0;
-    assert_eq!(rt; file.bytes(), want.as_slice());
+    writes_just_its_fields(&rt, &mut file);
     let again = file.into_bytes();
     assert_eq!(rt;
         SchemeView::new(again, read(again)?).flow(1),
@@ -48,7 +31,7 @@ fn a_write_to_a_lent_file_leaves_every_other_byte(rt: HostRuntime) -> Result<(),
 // A head has the three numbers, and no other part has them.
 #[test]
 fn a_head_tells_its_numbers(rt: HostRuntime) -> Result<(), Fail> {
-    let bytes = *EXAMPLE;
+    let bytes = *EXAMPLE_FILE;
     let Ok(Some(head)) = part_at(&bytes, 0, false) else {
         return Err(Fail::new("no head"));
     };
@@ -65,7 +48,7 @@ fn a_head_tells_its_numbers(rt: HostRuntime) -> Result<(), Fail> {
 // Rows that were found in other bytes and do not lie in these count as none.
 #[test]
 fn rows_of_another_file_are_none(rt: HostRuntime) -> Result<(), Fail> {
-    let bytes = *EXAMPLE;
+    let bytes = *EXAMPLE_FILE;
     let found = read(&bytes)?;
     let file = SchemeView::new(&bytes[0..77], found);
     assert_eq!(rt; file.reaches(), 0);
@@ -86,12 +69,15 @@ fn points_of(bytes: &[u8]) -> Result<u16, CallFault> {
 
 #[test]
 fn a_fault_of_reading_is_carried_up_whole(rt: HostRuntime) -> Result<(), Fail> {
-    let bytes = *EXAMPLE;
+    let bytes = *EXAMPLE_FILE;
     assert_eq!(rt; points_of(&bytes).ok(), Some(4));
     match points_of(&bytes[0..77]) {
         Ok(_) => Err(Fail::new("taken")),
         Err(fault) => {
-            assert_eq!(rt; fault.refusal(), FileFault::CutShort(12).refusal());
+            assert_eq!(rt;
+                Refusal::from(fault),
+                Refusal::from(FileFault::CutShort(12))
+            );
             Ok(())
         },
     }

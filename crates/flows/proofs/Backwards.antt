@@ -1,7 +1,8 @@
 -- An order as the push goes through it, latest point first.
-use Rattle.std.proofs.Common.{◌≡◌, ℕ, ◌<◌, ◌≤◌, min, Bool, true, false, ◌||◌, eqb, List, [], ◌∷◌, ◌++◌, reverse, refl, ap, ◌∙◌, arith}
+use Rattle.std.proofs.Common.{◌≡◌, ℕ, ◌<◌, ◌≤◌, min, true, false, ◌||◌, eqb, List, [], ◌∷◌, ◌++◌, reverse, refl, ap, ◌∙◌, arith}
 use mathlib.Core.Path.{fun_ext}
 use mathlib.Core.List.{reverse-cons}
+use Rattle.std.proofs.Math.Bool.{or_comm}
 use Rattle.std.proofs.lemmas.List.{reverse-append}
 use Rattle.scheme.specs.Scheme.{Scheme}
 use Rattle.flows.specs.Ordering.{left_into, least, Next, Taken, Made}
@@ -18,17 +19,11 @@ pub data Ready (s : Scheme) (gain : ℕ) : List ℕ → Type 0 where
       {v : ℕ} {ws : List ℕ} → v < s.points → among ws v ≡ false → gain ≤ left_into s (among ws) v → Ready s gain ws
       → Ready s gain (v ∷ ws)
 
-or_turned : (a b : Bool) → (a || b) ≡ (b || a)
-or_turned true true = refl
-or_turned true false = refl
-or_turned false true = refl
-or_turned false false = refl
-
 pub among_reverse : (ws : List ℕ) (u : ℕ) → among (reverse ws) u ≡ among ws u
 among_reverse [] u = refl
 among_reverse (w ∷ ws) u =
     ap (λ vs. among vs u) (reverse-cons w ws) ∙ among_push (reverse ws) w u
-    ∙ ap (λ b. b || eqb w u) (among_reverse ws u) ∙ or_turned (among ws u) (eqb w u)
+    ∙ ap (λ b. b || eqb w u) (among_reverse ws u) ∙ or_comm (among ws u) (eqb w u)
 
 module _ (s : Scheme) (gain : ℕ) where
   ready_next :

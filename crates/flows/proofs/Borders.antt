@@ -63,7 +63,7 @@ left_by_points s x formed =
     out w r = outside_of x (λ v. left_to x v r) w
 
 -- a test that passes wherever another does lets as much through
-lets_through : (c d : Bool) (a : ℕ) → (c ≡ true → d ≡ true) → cond c a 0 ≤ cond d a 0
+pub lets_through : (c d : Bool) (a : ℕ) → (c ≡ true → d ≡ true) → cond c a 0 ≤ cond d a 0
 lets_through true d a h = rw (h refl) (omega arith)
 lets_through false d a h = omega arith
 

@@ -1,12 +1,13 @@
 -- Chains of rounds.
-use Rattle.std.proofs.Common.{◌≡◌, ℕ, zero, suc, ◌+◌, ◌<◌, ◌≤◌, false, eqb, ◌⊎◌, List, [], ◌∷◌, pos, ◌+ℤ◌, sym, refl, subst, inl, inr, ⊎_elim, arith}
+use Rattle.std.proofs.Common.{◌≡◌, ℕ, zero, suc, ◌+◌, ◌<◌, ◌≤◌, eqb, ◌⊎◌, List, [], ◌∷◌, pos, ◌+ℤ◌, sym, subst, inl, inr, ⊎_elim, arith}
 use Rattle.std.proofs.lemmas.Int.{ints}
-use Rattle.std.proofs.lemmas.Bool.{cases_lt, eq-eqb, ne_eqb, cond-false, or_left, or_from}
+use Rattle.std.proofs.lemmas.Bool.{cases_lt, ne_eqb, cond-false}
 use Rattle.scheme.specs.Scheme.{Scheme}
 use Rattle.scheme.specs.Flow.{Points, Side, Lawful, Greatest, Gap, value, among}
 use Rattle.scheme.specs.Questions.{WellFormed}
 use Rattle.scheme.specs.Crossings.{left_out}
 use Rattle.flows.specs.Ordering.{Made}
+use Rattle.flows.specs.Ordering.Taken.{first}
 use Rattle.flows.specs.Push.{push}
 use Rattle.flows.specs.PushLaws.{SameLimits}
 use Rattle.flows.specs.Round.{Round, Rounds}
@@ -17,6 +18,7 @@ use Rattle.scheme.proofs.Cuts.{left_completes}
 use Rattle.flows.proofs.Ends.{no_gain_least_side}
 use Rattle.flows.proofs.Gaps.{gap_is, round_raises}
 use Rattle.flows.proofs.Limits.{same_limits_self, limits_then, limits_formed, limits_side, limits_capacity, limits_greatest, greatest_once, greatest_most}
+use Rattle.flows.proofs.Orders.{taken_side}
 use Rattle.flows.proofs.WholePush.{push_raises}
 use Rattle.flows.proofs.Searches.{has_ordering}
 
@@ -128,11 +130,7 @@ settle (suc fuel) s x formed lawful side enough =
 
 -- the inlet alone is a side
 pub inlet_side : (s : Scheme) → WellFormed s → Side s (among (s.inlet ∷ []))
-inlet_side s formed =
-    record {
-      holds = or_left (eqb s.inlet s.inlet) false (eq-eqb s.inlet s.inlet refl);
-      lacks = or_from (eqb s.inlet s.outlet) false (ne_eqb s.inlet s.outlet formed.apart) refl;
-    }
+inlet_side s formed = taken_side s formed.apart first
 
 pub every_settles : EverySchemeSettles
 every_settles s formed lawful =

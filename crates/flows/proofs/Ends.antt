@@ -15,7 +15,7 @@ use Rattle.scheme.proofs.Signs.{value_is}
 use Rattle.scheme.proofs.Cuts.{left_completes, meet_best}
 use Rattle.flows.proofs.Borders.{outside_of, left_by_points, left_within}
 use Rattle.flows.proofs.Keys.{key_at_most_left, no_key_nothing_left}
-use Rattle.flows.proofs.Orders.{among_push_cases, taken_inlet, taken_lacks_outlet, least_above}
+use Rattle.flows.proofs.Orders.{among_push_cases, taken_side, least_above}
 
 -- where no outside point has a key, nothing is left out of the taken points
 nothing_left : (s : Scheme) (x : Points) (v : ℕ) → WellFormed s → Next s x v 0 → left_out s x ≡ 0
@@ -65,7 +65,7 @@ no_gain s gain e formed lawful (stops {ws = ws} {v = v} taken n) =
     }
   where
     side : Side s (among ws)
-    side = record { holds = taken_inlet s taken; lacks = taken_lacks_outlet s formed.apart taken }
+    side = taken_side s formed.apart taken
 
     meets : value s ≡ pos (capacity s (among ws))
     meets = meets_if_nothing_left s (among ws) formed lawful side (nothing_left s (among ws) v formed n)

@@ -1,5 +1,5 @@
 -- What an ordering says of the gap.
-use Rattle.std.proofs.Common.{◌≡◌, ℕ, ◌+◌, ◌-◌, ◌*◌, ◌<◌, ◌≤◌, min, Bool, true, false, cond, eqb, ◌⊎◌, List, ℤ, pos, ◌+ℤ◌, sym, refl, ap, ◌∙◌, subst, inl, inr, ⊎_elim, add-mul, mul-add, arith}
+use Rattle.std.proofs.Common.{◌≡◌, ℕ, ◌+◌, ◌-◌, ◌*◌, ◌<◌, ◌≤◌, min, true, false, cond, eqb, ◌⊎◌, List, ℤ, pos, ◌+ℤ◌, sym, refl, ap, ◌∙◌, subst, inl, inr, ⊎_elim, add-mul, mul-add, arith}
 use Rattle.std.proofs.lemmas.Int.{ints}
 use Rattle.std.proofs.lemmas.Bool.{cases_Bool, cases_lt, both_ways, eq-eqb, ne_eqb, cond-true, cond-false}
 use Rattle.scheme.specs.Scheme.{Scheme}
@@ -11,27 +11,23 @@ use Rattle.flows.specs.Ordering.Taken.{first, next}
 use Rattle.flows.specs.Ordering.Made.{arrives, stops}
 use Rattle.flows.specs.Push.{push}
 use Rattle.flows.specs.PushLaws.{SameLimits}
-use Rattle.flows.specs.RoundLaws.{RoundLeaves, RoundRaisesTheValueByTheGain, GainsWithTheGap, RoundGainsWhileThereIsAGap, RoundsCloseTheGap}
+use Rattle.flows.specs.RoundLaws.{RoundLeaves, RoundRaisesTheValueByTheGain, RoundGainsWhileThereIsAGap, RoundsCloseTheGap}
 use Rattle.scheme.proofs.SumLaws.{below_mono, below_plus, below_one, below_const}
-use Rattle.flows.proofs.Borders.{outside_of, left_by_points}
+use Rattle.flows.proofs.Borders.{outside_of, left_by_points, lets_through}
 use Rattle.scheme.proofs.Cuts.{relaid_gain}
 use Rattle.flows.proofs.Ends.{no_gain_least_side}
 use Rattle.flows.proofs.Keys.{left_at_most_key}
 use Rattle.flows.proofs.Limits.{same_limits_self, limits_formed, limits_greatest, greatest_once, greatest_most}
-use Rattle.flows.proofs.Orders.{taken_inlet, taken_lacks_outlet, least_push}
+use Rattle.flows.proofs.Orders.{taken_side, least_push}
 use Rattle.flows.proofs.WholePush.{push_raises}
-
-plus_none : (z : ℤ) → z +ℤ pos 0 ≡ z
-plus_none z = omega (arith, ints)
 
 -- ---- no gain, no gap
 
-gain_with_gap :
-    (s : Scheme) (order keys : List ℕ) (gain : ℕ) → WellFormed s → Lawful s → Made s order keys gain
-    → GainsWithTheGap s gain
-gain_with_gap s order keys gain formed lawful made =
+pub gains_while_gap : RoundGainsWhileThereIsAGap
+gains_while_gap s order keys gain formed lawful made =
+    let none : value s +ℤ pos 0 ≡ value s = omega (arith, ints) in
     record {
-      closed = λ e. rw (plus_none (value s)) (no_gain_least_side s order keys formed lawful (rw e at made)).greatest;
+      closed = λ e. rw none (no_gain_least_side s order keys formed lawful (rw e at made)).greatest;
       ended = λ none.
           ⊎_elim (λ (some : 0 < gain).
           let pushed = push_raises s order keys gain formed lawful made some in
@@ -39,9 +35,6 @@ gain_with_gap s order keys gain formed lawful made =
           absurd (omega (arith, ints, pushed.raised, most)))
           (λ none. omega arith) (cases_lt 0 gain);
     }
-
-pub gains_while_gap : RoundGainsWhileThereIsAGap
-gains_while_gap s order keys gain formed lawful made = gain_with_gap s order keys gain formed lawful made
 
 -- ---- the narrowest place
 
@@ -79,21 +72,17 @@ module _ (s : Scheme) (gain : ℕ) (formed : WellFormed s) (narrow : Narrow s ga
   sofar = among narrow.points
 
   narrow_side : Side s sofar
-  narrow_side = record { holds = taken_inlet s narrow.taken; lacks = taken_lacks_outlet s formed.apart narrow.taken }
+  narrow_side = taken_side s formed.apart narrow.taken
 
   each_at_most : (w : ℕ) → w < s.points → outside_of sofar (left_into s sofar) w + cond (eqb s.inlet w) gain 0 ≤ gain
   each_at_most w l =
       ⊎_elim
-      (λ (held : sofar w ≡ true). rw held (small (eqb s.inlet w)))
+      (λ (held : sofar w ≡ true). rw held (omega (arith, lets_through (eqb s.inlet w) true gain (λ _. refl))))
       (λ (out : sofar w ≡ false).
       let most = narrow.after.greatest w (l, out) in
       let left = left_at_most_key s sofar w in
       rw (out, ne_eqb s.inlet w (λ e. both_ways (sofar w) out (sym (ap sofar e) ∙ narrow_side.holds))) (omega arith))
       (cases_Bool (sofar w))
-    where
-      small : (b : Bool) → 0 + cond b gain 0 ≤ gain
-      small true = omega arith
-      small false = omega arith
 
   narrow_left : left_out s sofar + gain ≤ s.points * gain
   narrow_left =

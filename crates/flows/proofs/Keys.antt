@@ -1,16 +1,17 @@
 -- What the proofs use of the rule by which keys grow. The first two hold of any rule by which a key is never less
 -- than the smaller of the taken key and what is left, nor more than the old key and what is left together.
-use Rattle.std.proofs.Common.{◌≡◌, ℕ, ◌+◌, ◌≤◌, Bool, true, false, cond, ◌&&◌, ◌||◌, eqb, List, [], ◌∷◌, take, fold, sum_by, sym, refl, ◌∙◌, arith}
+use Rattle.std.proofs.Common.{◌≡◌, ℕ, ◌+◌, ◌≤◌, Bool, true, false, cond, ◌&&◌, ◌||◌, eqb, List, take, sym, refl, ◌∙◌, arith}
 use Rattle.std.proofs.ByRecursion.{All-weaker, sum_by_le}
-use Rattle.std.proofs.lemmas.List.Sums.{sum_by-cons, sum_by-take-le}
+use Rattle.std.proofs.lemmas.List.Sums.{sum_by_from, sum_by-take-le}
 use Rattle.std.proofs.lemmas.Bool.{both_ways, eqb-true}
 use Rattle.scheme.specs.declared.rows.Reach.{Reach}
 use Rattle.scheme.specs.Scheme.{Scheme}
 use Rattle.scheme.specs.Flow.{Points, Lawful, left_on, left_back, among}
 use Rattle.scheme.specs.Questions.{WellFormed, Joined}
-use Rattle.flows.specs.Ordering.{left_to, left_into, grown, key, with_point, grown_from, start_key, Made}
+use Rattle.flows.specs.Ordering.{left_to, left_into, key, with_point, grown_from, start_key, Made}
 use Rattle.flows.specs.Ordering.Made.{arrives, stops}
 use Rattle.flows.specs.OrderingLaws.{KeysGrowPointByPoint, KeysStayWithin}
+use Rattle.flows.proofs.Borders.{lets_through}
 use Rattle.flows.proofs.Orders.{least_at_most}
 use Rattle.scheme.proofs.SumLaws.{all_of, all_both, sum_by_same, sum_by_plus}
 
@@ -25,10 +26,6 @@ module _ (s : Scheme) (x : Points) (v : ℕ) where
   pub left_at_most_key : left_into s x v ≤ key s x v
   left_at_most_key = omega arith
 
-lets_at_most : (b : Bool) (a : ℕ) → cond b a 0 ≤ a
-lets_at_most true a = omega arith
-lets_at_most false a = omega arith
-
 from_any : (s : Scheme) (x : Points) (v : ℕ) → WellFormed s → Lawful s → key s x v ≤ start_key
 from_any s x v formed lawful =
     let facts = all_both (Joined s) (λ r. r.flow ≤ r.limit) s.reaches formed.joined lawful.within in
@@ -39,8 +36,8 @@ from_any s x v formed lawful =
   where
     one : (r : Reach) → Joined s r × (r.flow ≤ r.limit) → left_to x v r ≤ 2000000
     one r h =
-        let on = lets_at_most (eqb r.head v && x r.tail) (left_on r) in
-        let back = lets_at_most (eqb r.tail v && x r.head) (left_back r) in
+        let on = lets_through (eqb r.head v && x r.tail) true (left_on r) (λ _. refl) in
+        let back = lets_through (eqb r.tail v && x r.head) true (left_back r) (λ _. refl) in
         omega (arith, h.0.bounded)
 
 -- ---- one point more
@@ -65,22 +62,17 @@ left_parts x u v out r =
     part true false true k e = omega arith
     part true false false k e = refl
 
--- a key that starts at k
-grown_from_lem : (g : Reach → ℕ) (k : ℕ) (rs : List Reach) → fold (λ k r. grown k (g r)) k rs ≡ k + sum_by g rs
-grown_from_lem g k [] = omega arith
-grown_from_lem g k (r ∷ rs) = omega (arith, grown_from_lem g (k + g r) rs, sum_by-cons g r rs)
-
 pub keys_grow : KeysGrowPointByPoint
 keys_grow s x u v out =
     sum_by_same (left_to (with_point x u) v) (λ r. left_to x v r + left_to (eqb u) v r) s.reaches (all_of _ (left_parts x u v out) s.reaches)
-    ∙ sum_by_plus (left_to x v) (left_to (eqb u) v) s.reaches ∙ sym (grown_from_lem (left_to (eqb u) v) (key s x v) s.reaches)
+    ∙ sum_by_plus (left_to x v) (left_to (eqb u) v) s.reaches ∙ sym (sum_by_from (left_to (eqb u) v) (key s x v) s.reaches)
 
 on_the_way :
     (s : Scheme) (x : Points) (u v count : ℕ) → WellFormed s → Lawful s → x u ≡ false
     → grown_from u v (take count s.reaches) (key s x v) ≤ start_key
 on_the_way s x u v count formed lawful out =
-    let whole = grown_from_lem (left_to (eqb u) v) (key s x v) s.reaches in
-    let part = grown_from_lem (left_to (eqb u) v) (key s x v) (take count s.reaches) in
+    let whole = sum_by_from (left_to (eqb u) v) (key s x v) s.reaches in
+    let part = sum_by_from (left_to (eqb u) v) (key s x v) (take count s.reaches) in
     let less = sum_by-take-le (left_to (eqb u) v) s.reaches count in
     omega (arith, keys_grow s x u v out, from_any s (with_point x u) v formed lawful)
 

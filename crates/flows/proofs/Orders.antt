@@ -4,7 +4,7 @@ use mathlib.Core.Path.{fun_ext}
 use Rattle.std.proofs.lemmas.Bool.{or_cases, or_left, or_right, or_from, eqb-true, eq-eqb, ne_eqb}
 use Rattle.scheme.specs.Scheme.{Scheme}
 use Rattle.flows.specs.Ordering.{with_point, least, Taken}
-use Rattle.scheme.specs.Flow.{among}
+use Rattle.scheme.specs.Flow.{Side, among}
 use Rattle.flows.specs.Ordering.Taken.{first, next}
 
 -- the points after one more
@@ -50,6 +50,10 @@ module _ (s : Scheme) where
   taken_lacks_outlet apart first = or_from (eqb s.inlet s.outlet) false (ne_eqb s.inlet s.outlet apart) refl
   taken_lacks_outlet apart (next {ws = ws} {v = v} taken n above inner) =
       among_push ws v s.outlet ∙ or_from (among ws s.outlet) (eqb v s.outlet) (taken_lacks_outlet apart taken) inner
+
+  -- so the points that are taken are a side
+  pub taken_side : {ws ks : List ℕ} → s.inlet ≢ s.outlet → Taken s ws ks → Side s (among ws)
+  taken_side apart taken = record { holds = taken_inlet taken; lacks = taken_lacks_outlet apart taken }
 
   -- keys taken are above 0, so their least is
   pub least_above : {ws ks : List ℕ} (k : ℕ) → Taken s ws ks → 0 < k → 0 < least ks k

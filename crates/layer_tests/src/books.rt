@@ -1,8 +1,8 @@
 // What every register and every book must do, whatever it is made of.
-use crate::examples::Dry;
 use scheme::{Book, BookFault, Register};
 use std::process::Abort;
 use std::test::Fail;
+use worked_examples::Dry;
 
 // What a register is to read as, while nothing flows.
 #[derive(Drop)]
@@ -25,9 +25,10 @@ pub fn reads_as<R: Register>(rt: &impl Abort, register: &R, want: &Want) {
 }
 
 fn reach_is<R: Register>(rt: &impl Abort, register: &R, k: usize, reach: Dry, flow: u32) {
-    assert_eq!(rt; register.tail(k), Some(reach.0));
-    assert_eq!(rt; register.head(k), Some(reach.1));
-    assert_eq!(rt; register.limit(k), Some(reach.2));
+    let (tail, head, limit) = reach;
+    assert_eq!(rt; register.tail(k), Some(tail));
+    assert_eq!(rt; register.head(k), Some(head));
+    assert_eq!(rt; register.limit(k), Some(limit));
     assert_eq!(rt; register.flow(k), Some(flow));
 }
 

@@ -1,23 +1,22 @@
 // The junction at its edges.
 use crate::books::{Want, reads_as, refuses};
-use crate::examples::{example, table, twins};
 use layers::Junction;
 use scheme::{Book, CallFault, Register, value_of};
 use std::process::Abort;
 use std::test::Fail;
 
 // What a junction stands for over a register that it cannot stand on.
+const NOTHING: Want<'static> = Want {
+    points: 0,
+    inlet: 65_535,
+    outlet: 65_535,
+    reaches: &[],
+};
+
+use worked_examples::{example, table, twins};
+
 fn is_nothing<B: Book>(rt: &impl Abort, book: &mut B) {
-    reads_as(
-        rt,
-        book,
-        &Want {
-            points: 0,
-            inlet: 65_535,
-            outlet: 65_535,
-            reaches: &[],
-        },
-    );
+    reads_as(rt, book, &NOTHING);
     refuses(rt, book, 0);
 }
 

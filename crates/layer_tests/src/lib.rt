@@ -5,8 +5,6 @@
 #[cfg(test)]
 mod books;
 #[cfg(test)]
-mod examples;
-#[cfg(test)]
 mod junction_tests;
 #[cfg(test)]
 mod pile_tests;

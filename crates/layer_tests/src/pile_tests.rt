@@ -1,6 +1,5 @@
 // A table and a file of the same scheme, and layers over either, all pass the same tests.
 use crate::books::{Want, reads_as, takes_writes};
-use crate::examples::{Dry, EXAMPLE, EXAMPLE_FILE, example};
 use layers::{Junction, Turned};
 use scheme::Book;
 use scheme_file::SchemeFile;
@@ -14,63 +13,65 @@ const PLAIN: Want<'static> = Want {
     reaches: &EXAMPLE,
 };
 
-const TURNED: [Dry; 5] = [(1, 0, 5), (2, 0, 4), (2, 1, 3), (3, 1, 2), (3, 2, 6)];
+use worked_examples::{EXAMPLE, EXAMPLE_FILE, example};
+
+const TURNED: Want<'static> = Want {
+    points: 4,
+    inlet: 3,
+    outlet: 0,
+    reaches: &[(1, 0, 5), (2, 0, 4), (2, 1, 3), (3, 1, 2), (3, 2, 6)],
+};
+
+// The gates' limits, in point order.
+const GATES: [u32; 4] = [9, 9, 5, 9];
 
 // Written out by hand: the reaches below leave from u + 4, and the gates stand behind them.
-const SPLIT: [Dry; 9] = [
-    (4, 1, 5),
-    (4, 2, 4),
-    (5, 2, 3),
-    (5, 3, 2),
-    (6, 3, 6),
-    (0, 4, 9),
-    (1, 5, 9),
-    (2, 6, 5),
-    (3, 7, 9),
-];
+const SPLIT: Want<'static> = Want {
+    points: 8,
+    inlet: 0,
+    outlet: 7,
+    reaches: &[
+        (4, 1, 5),
+        (4, 2, 4),
+        (5, 2, 3),
+        (5, 3, 2),
+        (6, 3, 6),
+        (0, 4, 9),
+        (1, 5, 9),
+        (2, 6, 5),
+        (3, 7, 9),
+    ],
+};
 
 // The same of the turned scheme, turned again.
-const PILED: [Dry; 9] = [
-    (0, 5, 5),
-    (0, 6, 4),
-    (1, 6, 3),
-    (1, 7, 2),
-    (2, 7, 6),
-    (4, 0, 9),
-    (5, 1, 9),
-    (6, 2, 5),
-    (7, 3, 9),
-];
+const PILED: Want<'static> = Want {
+    points: 8,
+    inlet: 4,
+    outlet: 3,
+    reaches: &[
+        (0, 5, 5),
+        (0, 6, 4),
+        (1, 6, 3),
+        (1, 7, 2),
+        (2, 7, 6),
+        (4, 0, 9),
+        (5, 1, 9),
+        (6, 2, 5),
+        (7, 3, 9),
+    ],
+};
 
 fn turned_is_a_book<B: Book + Drop>(rt: &impl Abort, below: B) -> Result<(), Fail> {
-    let want = Want {
-        points: 4,
-        inlet: 3,
-        outlet: 0,
-        reaches: &TURNED,
-    };
-    takes_writes(rt, &mut Turned::new(below), &want)
+    takes_writes(rt, &mut Turned::new(below), &TURNED)
 }
 
 fn junction_is_a_book<B: Book + Drop>(rt: &impl Abort, below: B) -> Result<(), Fail> {
-    let want = Want {
-        points: 8,
-        inlet: 0,
-        outlet: 7,
-        reaches: &SPLIT,
-    };
-    takes_writes(rt, &mut Junction::new(below, &[9, 9, 5, 9]), &want)
+    takes_writes(rt, &mut Junction::new(below, &GATES), &SPLIT)
 }
 
 fn pile_is_a_book<B: Book + Drop>(rt: &impl Abort, below: B) -> Result<(), Fail> {
-    let want = Want {
-        points: 8,
-        inlet: 4,
-        outlet: 3,
-        reaches: &PILED,
-    };
-    let mut pile = Turned::new(Junction::new(Turned::new(below), &[9, 9, 5, 9]));
-    takes_writes(rt, &mut pile, &want)
+    let mut pile = Turned::new(Junction::new(Turned::new(below), &GATES));
+    takes_writes(rt, &mut pile, &PILED)
 }
 
 #[test]

@@ -1,21 +1,20 @@
 -- Other flows laid over a register, and over a junction.
 use Rattle.std.proofs.Common.{◌≡◌, ℕ, zero, suc, ◌<◌, List, [], ◌∷◌, ◌++◌, map, length, get_or, sym, refl, ap, ◌∙◌, arith}
-use Rattle.std.specs.List.{range_with_len, AllByRecursion}
-use Rattle.std.proofs.lemmas.List.FromFn.{length-map-range_with_len, get_or-map-range_with_len}
-use Rattle.std.proofs.ByRecursion.{All-weaker}
-use Rattle.std.proofs.lemmas.List.{length-map, same_lists}
+use Rattle.std.specs.List.{range_with_len}
+use Rattle.std.proofs.lemmas.List.FromFn.{fill_by_all, length-map-range_with_len, get_or-map-range_with_len}
+use Rattle.std.proofs.lemmas.List.Elements.{length_all_zip}
+use Rattle.scheme.proofs.Relaid.{Alike, alike_relaid, formed_alike}
+use Rattle.std.proofs.lemmas.List.{length-map}
 use Rattle.scheme.specs.declared.rows.Reach.{Reach}
 use Rattle.scheme.specs.Scheme.{Scheme, over, flowing, flows_over, with_flows}
-use Rattle.scheme.specs.Questions.{WellFormed, Joined}
+use Rattle.scheme.specs.Questions.{WellFormed}
 use Rattle.layers.specs.declared.gates.Gate.{Gate}
 use Rattle.layers.specs.Junctions.{split, between, through, gate_reach, shut, carried_reaches, gate_reaches}
 
 -- Flows laid over a list of reaches
 
 length_flows : (rs : List Reach) (fs : List ℕ) → length (flows_over rs fs) ≡ length rs
-length_flows [] fs = refl
-length_flows (r ∷ rs) [] = refl
-length_flows (r ∷ rs) (f ∷ fs) = ap suc (length_flows rs fs)
+length_flows rs fs = sym (length_all_zip Alike rs (flows_over rs fs) (alike_relaid rs fs))
 
 get_or_flows : (rs : List Reach) (fs : List ℕ) (k : ℕ) (d : Reach) → k < length rs → length fs ≡ length rs → get_or (flows_over rs fs) k d ≡ flowing (get_or fs k 0) (get_or rs k d)
 get_or_flows [] fs k d within long = absurd (omega arith)
@@ -35,33 +34,8 @@ flows_map t alike [] fs = refl
 flows_map t alike (r ∷ rs) [] = refl
 flows_map t alike (r ∷ rs) (f ∷ fs) = ap (λ x. x ∷ flows_over (map t rs) fs) (alike f r) ∙ ap (λ rest. t (flowing f r) ∷ rest) (flows_map t alike rs fs)
 
-joined_flows : (s : Scheme) (rs : List Reach) (fs : List ℕ) → AllByRecursion (Joined s) rs → AllByRecursion (Joined s) (flows_over rs fs)
-joined_flows s [] fs all = tt
-joined_flows s (r ∷ rs) [] all = all
-joined_flows s (r ∷ rs) (f ∷ fs) all = (
-  record {
-    tail_point = all.0.tail_point;
-    head_point = all.0.head_point;
-    apart = all.0.apart;
-    bounded = all.0.bounded;
-  },
-  joined_flows s rs fs all.1,
-)
-
 pub formed_flows : (s : Scheme) (fs : List ℕ) → WellFormed s → WellFormed (with_flows s fs)
-formed_flows s fs formed =
-    record {
-      some_points = formed.some_points;
-      few_points = formed.few_points;
-      few_reaches = omega (arith, formed.few_reaches, length_flows s.reaches fs);
-      inlet_point = formed.inlet_point;
-      outlet_point = formed.outlet_point;
-      apart = formed.apart;
-      joined =
-          All-weaker (Joined s) (Joined (with_flows s fs))
-          (λ r j. record { tail_point = j.tail_point; head_point = j.head_point; apart = j.apart; bounded = j.bounded })
-          (flows_over s.reaches fs) (joined_flows s s.reaches fs formed.joined);
-    }
+formed_flows s fs = formed_alike s (flows_over s.reaches fs) (alike_relaid s.reaches fs)
 
 -- Flows laid over the gates of n points
 
@@ -77,16 +51,13 @@ gates_with_at n gates gs v point = get_or-map-range_with_len (gate_with gates gs
 flows_through : (n : ℕ) (gates : List Gate) (gs : List ℕ) → length gs ≡ n → flows_over (gate_reaches n gates) gs ≡ gate_reaches n (gates_with n gates gs)
 flows_through n gates gs long =
     let old = gate_reaches n gates in
-    let new = gate_reaches n (gates_with n gates gs) in
-    same_lists (flows_over old gs) new
-    (length_flows old gs ∙ length-map-range_with_len (through n gates) 0 n ∙ sym (length-map-range_with_len (through n (gates_with n gates gs)) 0 n))
-    (λ k d within.
-    let listed : k < length old = omega (arith, length_flows old gs) in
-    let point : k < n = omega (arith, length-map-range_with_len (through n gates) 0 n) in
-    get_or_flows old gs k d listed (omega (arith, length-map-range_with_len (through n gates) 0 n))
-    ∙ ap (flowing (get_or gs k 0)) (get_or-map-range_with_len (through n gates) 0 n k k d point (omega arith))
-    ∙ ap (gate_reach n k) (sym (gates_with_at n gates gs k point))
-    ∙ sym (get_or-map-range_with_len (through n (gates_with n gates gs)) 0 n k k d point (omega arith)))
+    let new = gates_with n gates gs in
+    let many : length (gate_reaches n gates) ≡ n = length-map-range_with_len (through n gates) 0 n in
+    fill_by_all (through n new) (flows_over old gs) n (through n gates 0) (length_flows old gs ∙ many)
+    (λ k point.
+    get_or_flows old gs k (through n gates 0) (omega arith) (omega arith)
+    ∙ ap (flowing (get_or gs k 0)) (get_or-map-range_with_len (through n gates) 0 n k k (through n gates 0) point (omega arith))
+    ∙ ap (gate_reach n k) (sym (gates_with_at n gates gs k point)))
 
 -- A flow laid over a junction is one laid over the register below and one over the gates.
 

@@ -1,20 +1,23 @@
 -- What a write does to a junction's list of reaches, by where the reach is kept.
-use Rattle.std.proofs.Common.{◌≡◌, ℕ, ◌+◌, ◌-◌, ◌<◌, true, ◌&&◌, leb, ◌≢◌, List, ◌++◌, length, get_or, set, Some, None, sym, refl, ap, ◌∙◌, ⊎_elim, arith}
+use Rattle.std.proofs.Common.{◌≡◌, ℕ, ◌+◌, ◌-◌, ◌<◌, true, ◌&&◌, leb, List, ◌++◌, length, get_or, set, Some, None, Option, sym, refl, ap, ap₂, ◌∙◌, arith}
 use Rattle.std.specs.List.{slice_get}
-use Rattle.std.proofs.lemmas.List.FromFn.{length-map-range_with_len, get_or-map-range_with_len}
-use Rattle.std.proofs.lemmas.List.{length-map, length-set, set-append_left, set-append_right, same_lists, get_or-set_same, get_or-set_other}
-use Rattle.std.proofs.lemmas.Bool.{cases_eq}
+use Rattle.std.proofs.lemmas.List.FromFn.{fill_by_all, length-map-range_with_len, get_or-map-range_with_len}
+use Rattle.std.proofs.lemmas.List.{length-map, length-set, set-append_left, set-append_right, get_or-set_same}
+use Rattle.std.proofs.lemmas.Grind.{common_steps}
+use Rattle.std.proofs.lemmas.Bool.Decides.{nat_tests}
+use Rattle.std.proofs.lemmas.Bool.{and_parts, leb-true}
 use Rattle.scheme.proofs.Writes.{changed_past, unlisted_past, unlisted_within}
 use Rattle.scheme.specs.declared.faults.Layer.TheVariants.{Book}
 use Rattle.scheme.specs.declared.rows.Reach.{Reach}
+use Rattle.scheme.specs.declared.faults.Refusal.{Refusal}
 use Rattle.scheme.specs.Refusals.{unlisted, refused}
 use Rattle.scheme.specs.Scheme.{Scheme, changed, over}
 use Rattle.layers.specs.declared.gates.Gate.{Gate}
 use Rattle.layers.specs.declared.gates.Site.{Site}
-use Rattle.layers.specs.declared.gates.Site.TheVariants.{Below, At, Nowhere}
-use Rattle.layers.specs.Junctions.{by_site, site_of, junction, carriable, gated, between, through, gate_reach, shut, split, carried_reaches, gate_reaches}
+use Rattle.layers.specs.declared.gates.Site.TheVariants.{Below, At}
+use Rattle.layers.specs.Junctions.{by_site, site_of, below_written, gates_written, junction, carriable, gated, between, through, gate_reach, shut, split, carried_reaches, gate_reaches}
 use Rattle.layers.proofs.Mapped.{changed_map}
-use Rattle.layers.proofs.Sites.{nth_append_left, gated_at, junction_on, length_on, placed}
+use Rattle.layers.proofs.Sites.{Placed, placed, nth_append_left, gated_at, junction_on, length_on}
 
 length_changed : (f : Reach → Reach) (rs : List Reach) (k : ℕ) → length (changed f rs k) ≡ length rs
 length_changed f rs k =
@@ -35,24 +38,11 @@ changed_append f xs ys k within =
 set_through : (n : ℕ) (gates : List Gate) (v : ℕ) (gate : Gate) → v < n → set (gate_reaches n gates) v (through n (set gates v gate) v) ≡ gate_reaches n (set gates v gate)
 set_through n gates v gate point =
     let old = gate_reaches n gates in
-    let new = gate_reaches n (set gates v gate) in
+    let new = set gates v gate in
     let this = through n (set gates v gate) v in
-    same_lists (set old v this) new
-    (length-set old v this ∙ length-map-range_with_len (through n gates) 0 n ∙ sym (length-map-range_with_len (through n (set gates v gate)) 0 n))
-    (λ k d within.
-    let below : k < n = omega (arith, length-set old v this, length-map-range_with_len (through n gates) 0 n) in
-    ⊎_elim
-    (λ (e : k ≡ v).
-    ap (λ i. get_or (set old v this) i d) e
-    ∙ get_or-set_same old v this d (omega (arith, length-map-range_with_len (through n gates) 0 n))
-    ∙ ap (through n (set gates v gate)) (sym e)
-    ∙ sym (get_or-map-range_with_len (through n (set gates v gate)) 0 n k k d below (omega arith)))
-    (λ (apart : k ≢ v).
-    get_or-set_other old v k this d apart
-    ∙ get_or-map-range_with_len (through n gates) 0 n k k d below (omega arith)
-    ∙ ap (gate_reach n k) (sym (get_or-set_other gates v k gate shut apart))
-    ∙ sym (get_or-map-range_with_len (through n (set gates v gate)) 0 n k k d below (omega arith)))
-    (cases_eq k v))
+    let many : length (gate_reaches n gates) ≡ n = length-map-range_with_len (through n gates) 0 n in
+    fill_by_all (through n new) (set old v this) n this (length-set old v this ∙ many)
+    (λ k below. grind (arith, nat_tests, common_steps, get_or-map-range_with_len (through n gates) 0 n k k this below))
 
 module _ (s : Scheme) (gates : List Gate) (on : carriable s ≡ true) (f : Reach → Reach) where
   -- a reach below changed
@@ -87,38 +77,34 @@ module _ (s : Scheme) (gates : List Gate) (on : carriable s ≡ true) (f : Reach
       ∙ sym (changed_some f (gated s gates) k (through n gates v) (gated_at s gates v point)))
       ∙ ap (λ t. over t (changed f t.reaches k)) (sym (junction_on s gates on))
 
--- what a write at each site answers, and what it leaves
-
 module _ (s : Scheme) (gates : List Gate) (k : ℕ) where
-  pub below_answer : Below ≡ site_of s k → unlisted s k ≡ unlisted (junction s gates) k
-  below_answer here =
-      let is = placed s gates k Below here in
-      unlisted_within s k is.1
-      ∙ sym (unlisted_within (junction s gates) k (omega (arith, is.1, length_on s gates is.0)))
+  -- a write is refused where the reach is at no place
+  abbrev pub refused_at : Option Site → Option Refusal
+  refused_at (Some site) = None
+  refused_at None = Some (refused Book 11 k)
 
-  pub at_answer : (v : ℕ) → At v ≡ site_of s k → None ≡ unlisted (junction s gates) k
-  at_answer v here =
-      let is = placed s gates k (At v) here in
-      sym (unlisted_within (junction s gates) k (omega (arith, is.1, is.2, length_on s gates is.0)))
+  placed_refused : (site : Option Site) → Placed s gates k site → unlisted (junction s gates) k ≡ refused_at site
+  placed_refused (Some Below) is =
+      unlisted_within (junction s gates) k (omega (arith, is.1, length_on s gates is.0))
+  placed_refused (Some (At v)) is =
+      unlisted_within (junction s gates) k (omega (arith, is.1, is.2, length_on s gates is.0))
+  placed_refused None past = unlisted_past (junction s gates) k past
 
-  pub nowhere_answer : Nowhere ≡ site_of s k → Some (refused Book 11 k) ≡ unlisted (junction s gates) k
-  nowhere_answer here = sym (unlisted_past (junction s gates) k (placed s gates k Nowhere here))
+  pub site_refused : unlisted (junction s gates) k ≡ refused_at (site_of s k)
+  site_refused = placed_refused (site_of s k) (placed s gates k)
 
-  module _ (f : Reach → Reach) where
-    pub below_after : ((r : Reach) → f (between s.points r) ≡ between s.points (f r)) → Below ≡ site_of s k → junction (over s (changed f s.reaches k)) gates ≡ over (junction s gates) (changed f (junction s gates).reaches k)
-    below_after alike here = let is = placed s gates k Below here in written_below s gates is.0 f alike k is.1
+-- A write to register or gate, wherever the reach is kept, is the same write to what the junction means.
+module _ (s : Scheme) (gates : List Gate) (k : ℕ) (all : length gates ≡ 256) (f : Reach → Reach) (write : Gate → Gate) (below-alike : (r : Reach) → f (between s.points r) ≡ between s.points (f r)) (gate-alike : (v : ℕ) (gate : Gate) → f (gate_reach s.points v gate) ≡ gate_reach s.points v (write gate)) where
+  abbrev written : Scheme
+  written = over (junction s gates) (changed f (junction s gates).reaches k)
 
-    pub at_after : (v : ℕ) (gate : Gate) → At v ≡ site_of s k → v < length gates → f (through s.points gates v) ≡ gate_reach s.points v gate → junction s (set gates v gate) ≡ over (junction s gates) (changed f (junction s gates).reaches k)
-    at_after v gate here listed changes =
-        let is = placed s gates k (At v) here in
-        written_at s gates is.0 f v gate is.2 listed changes
-        ∙ ap (λ i. over (junction s gates) (changed f (junction s gates).reaches i)) (sym is.1)
+  placed_written : (site : Option Site) → Placed s gates k site → junction (by_site (over s (changed f s.reaches k)) (λ v. s) s site) (by_site gates (λ v. set gates v (write (get_or gates v shut))) gates site) ≡ written
+  placed_written (Some Below) is = written_below s gates is.0 f below-alike k is.1
+  placed_written (Some (At v)) is =
+      let few = leb-true s.points 256 (and_parts (leb s.points 256) (leb (length s.reaches) 8192) is.0).0 in
+      written_at s gates is.0 f v (write (get_or gates v shut)) is.2 (omega (arith, is.2)) (gate-alike v (get_or gates v shut))
+      ∙ ap (λ i. over (junction s gates) (changed f (junction s gates).reaches i)) (sym is.1)
+  placed_written None past = ap (over (junction s gates)) (sym (changed_past f (junction s gates).reaches k past))
 
-    pub nowhere_after : Nowhere ≡ site_of s k → junction s gates ≡ over (junction s gates) (changed f (junction s gates).reaches k)
-    nowhere_after here = ap (over (junction s gates)) (sym (changed_past f (junction s gates).reaches k (placed s gates k Nowhere here)))
-
--- what a write does where its reach is kept
-pub by_site_here :
-    {X : Type 0} (below : X) (gate : ℕ → X) (nowhere : X) (s : Scheme) (k : ℕ) (site : Site) → site ≡ site_of s k
-    → by_site below gate nowhere site ≡ by_site below gate nowhere (site_of s k)
-by_site_here below gate nowhere s k site here = ap (by_site below gate nowhere) here
+  pub site_written : (t : Scheme) (after : List Gate) → t ≡ below_written (λ u. over u (changed f u.reaches k)) s k → after ≡ gates_written write s gates k → junction t after ≡ over (junction s gates) (changed f (junction s gates).reaches k)
+  site_written t after below own = ap₂ junction below own ∙ placed_written (site_of s k) (placed s gates k)

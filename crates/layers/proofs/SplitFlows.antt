@@ -5,7 +5,8 @@ use lib.IntN.{sub_ℕ}
 use Rattle.std.specs.List.{range_with_len, AllByRecursion}
 use Rattle.std.proofs.lemmas.List.FromFn.{length-map-range_with_len, get_or-map-range_with_len}
 use Rattle.std.proofs.ByRecursion.{All-append, All-map, All-get_or, All-from_get_or}
-use Rattle.std.proofs.lemmas.Bool.{cases_eq, cases_lt, eq-eqb, ne_eqb}
+use Rattle.std.proofs.lemmas.Bool.{cases_lt, ne_eqb}
+use Rattle.std.proofs.lemmas.Bool.Decides.{nat_tests}
 use Rattle.scheme.specs.Scheme.{Scheme}
 use Rattle.scheme.specs.Flow.{Lawful, value, inflow, outflow}
 use Rattle.scheme.specs.Questions.{WellFormed}
@@ -65,11 +66,7 @@ module _ (s : Scheme) (gates : List Gate) (formed : WellFormed s) where
 
   pub gate_carries : Lawful (split s gates) → (v : ℕ) → v < s.points → (get_or gates v shut).flow ≡ passes s v
   gate_carries lawful v point =
-      ⊎_elim
-      (λ (e : v ≡ s.outlet).
-      rw (eq-eqb v s.outlet e) (sym (gate_fed lawful v point (λ (here : v ≡ s.inlet). formed.apart (sym here ∙ e)))))
-      (λ (apart : v ≡ s.outlet → ⊥). rw (ne_eqb v s.outlet apart) (gate_feeds lawful v point apart))
-      (cases_eq v s.outlet)
+      grind (arith, nat_tests, gate_fed lawful v point, gate_feeds lawful v point, formed.apart)
 
   -- down
 
@@ -97,11 +94,7 @@ module _ (s : Scheme) (gates : List Gate) (formed : WellFormed s) where
     passes_inner v apart = rw (ne_eqb v s.outlet apart) refl
 
     passes_in : Lawful s → (v : ℕ) → v < s.points → v ≢ s.inlet → inflow s v ≡ passes s v
-    passes_in lawful v point not-inlet =
-        ⊎_elim
-        (λ (e : v ≡ s.outlet). rw (eq-eqb v s.outlet e) refl)
-        (λ (apart : v ≡ s.outlet → ⊥). lawful.balanced v point not-inlet apart ∙ sym (passes_inner v apart))
-        (cases_eq v s.outlet)
+    passes_in lawful v point not-inlet = grind (arith, nat_tests, lawful.balanced v point not-inlet)
 
     balanced_up : Lawful s → (w : ℕ) → w < 2 * s.points → w ≢ (split s gates).inlet → w ≢ (split s gates).outlet → inflow (split s gates) w ≡ outflow (split s gates) w
     balanced_up lawful w above not-inlet not-outlet =

@@ -1,29 +1,26 @@
 -- What enters and what leaves each half of a point that a junction has taken apart.
 -- At v, before the gate: what enters v below, and out of it the gate's flow. At v + n, behind the gate: the gate's flow,
 -- and out of it what leaves v below.
-use Rattle.std.proofs.Common.{◌≡◌, ℕ, zero, suc, ◌+◌, ◌<◌, Bool, false, cond, eqb, List, [], ◌∷◌, map, get_or, sum_by, sym, refl, ap, ◌∙◌, ⊎_elim, arith}
+use Rattle.std.proofs.Common.{◌≡◌, ℕ, zero, suc, ◌+◌, ◌<◌, Bool, false, cond, eqb, List, map, get_or, sum_by, sym, refl, ap, ◌∙◌, arith}
 use Rattle.std.specs.List.{range_with_len}
 use Rattle.std.proofs.lemmas.List.FromFn.{sum_by-map-range_with_len_more}
 use Rattle.std.proofs.ByRecursion.{All-weaker}
-use Rattle.std.proofs.lemmas.List.Sums.{sum_by-append, sum_by-cons}
-use Rattle.std.proofs.lemmas.Bool.{cases_eq, eq-eqb, ne_eqb, lt-ltb}
+use Rattle.std.proofs.lemmas.List.Sums.{sum_by-append}
+use Rattle.std.proofs.lemmas.Bool.{ne_eqb, lt-ltb}
+use Rattle.std.proofs.lemmas.Bool.Decides.{nat_tests}
 use Rattle.scheme.specs.declared.rows.Reach.{Reach}
 use Rattle.scheme.specs.Scheme.{Scheme}
 use Rattle.scheme.specs.Flow.{inflow, outflow}
 use Rattle.scheme.specs.Questions.{WellFormed, Joined}
 use Rattle.layers.specs.declared.gates.Gate.{Gate}
 use Rattle.layers.specs.Junctions.{split, gated, between, through, arrival, departure, shut, carried_reaches, gate_reaches}
-use Rattle.scheme.proofs.SumLaws.{sum_below, sum_by_same, below_same, below_none, below_one}
+use Rattle.scheme.proofs.SumLaws.{sum_below, sum_by_none, sum_by_same, below_same, below_none, below_one}
 use Rattle.layers.proofs.Totals.{sum_by_map}
 
 -- tests of numbers
 
 eqb_alike : (a b c d : ℕ) → (a ≡ b → c ≡ d) → (c ≡ d → a ≡ b) → eqb a b ≡ eqb c d
-eqb_alike a b c d there back =
-    ⊎_elim
-    (λ (e : a ≡ b). eq-eqb a b e ∙ sym (eq-eqb c d (there e)))
-    (λ (apart : a ≡ b → ⊥). ne_eqb a b apart ∙ sym (ne_eqb c d (λ e. apart (back e))))
-    (cases_eq a b)
+eqb_alike a b c d there back = grind (arith, nat_tests)
 
 pub arrival_is : (n v : ℕ) → v < n → arrival n v ≡ v
 arrival_is n v point = rw (lt-ltb v n point) refl
@@ -32,10 +29,6 @@ pub departure_is : (n v : ℕ) → v < n → departure n v ≡ v + n
 departure_is n v point = rw (lt-ltb v n point) refl
 
 -- sums over the two parts of a junction's list
-
-sum_by_none : {X : Type 0} (xs : List X) → sum_by (λ x. 0) xs ≡ 0
-sum_by_none [] = refl
-sum_by_none (x ∷ xs) = sum_by-cons (λ x. 0) x xs ∙ omega (arith, sum_by_none xs)
 
 sum_by_counted : {X : Type 0} (f : X → ℕ) (t : ℕ → X) (n : ℕ) → sum_by f (map t (range_with_len 0 n)) ≡ sum_below n (λ v. f (t v))
 sum_by_counted f t zero = refl

@@ -1,6 +1,7 @@
 -- Flows and sides of a register turned round.
-use Rattle.std.proofs.Common.{◌≡◌, ℕ, ◌+◌, ◌≤◌, true, false, cond, not, ◌&&◌, eqb, List, [], ◌∷◌, map, ℤ, ◌≤ℤ◌, sum_by, sym, refl, ap, ◌∙◌, subst, arith}
+use Rattle.std.proofs.Common.{◌≡◌, ℕ, ◌+◌, ◌<◌, ◌≤◌, cond, not, eqb, List, [], ◌∷◌, map, ℤ, ◌≤ℤ◌, sum_by, sym, refl, ap, ◌∙◌, subst, arith}
 use Rattle.std.proofs.ByRecursion.{All-map, All-weaker}
+use Rattle.std.proofs.Math.Bool.{and_comm, not-not}
 use Rattle.std.proofs.lemmas.List.{length-map}
 use Rattle.std.proofs.lemmas.Bool.{not-true, not-false, not_from_true, not_from_false}
 use Rattle.scheme.specs.declared.rows.Reach.{Reach}
@@ -71,25 +72,18 @@ well_formed_as_below s formed =
 -- All points but inlet and outlet balance, so those two do together.
 
 module _ (s : Scheme) (formed : WellFormed s) where
-  total_outflow : sum_below s.points (outflow s) ≡ sum_by (λ r. r.flow) s.reaches
-  total_outflow =
-      exchange (λ v r. cond (eqb r.tail v) r.flow 0) s.points s.reaches
+  total_flow : (end : Reach → ℕ) → ((r : Reach) → Joined s r → end r < s.points) → sum_below s.points (λ v. sum_by (λ r. cond (eqb (end r) v) r.flow 0) s.reaches) ≡ sum_by (λ r. r.flow) s.reaches
+  total_flow end point =
+      exchange (λ v r. cond (eqb (end r) v) r.flow 0) s.points s.reaches
       ∙ sum_by_same _ (λ r. r.flow) s.reaches
-      (All-weaker (Joined s) (λ r. sum_below s.points (λ v. cond (eqb r.tail v) r.flow 0) ≡ r.flow)
-      (λ r j. below_one r.tail (λ v. r.flow) s.points j.tail_point) s.reaches formed.joined)
-
-  total_inflow : sum_below s.points (inflow s) ≡ sum_by (λ r. r.flow) s.reaches
-  total_inflow =
-      exchange (λ v r. cond (eqb r.head v) r.flow 0) s.points s.reaches
-      ∙ sum_by_same _ (λ r. r.flow) s.reaches
-      (All-weaker (Joined s) (λ r. sum_below s.points (λ v. cond (eqb r.head v) r.flow 0) ≡ r.flow)
-      (λ r j. below_one r.head (λ v. r.flow) s.points j.head_point) s.reaches formed.joined)
+      (All-weaker (Joined s) (λ r. sum_below s.points (λ v. cond (eqb (end r) v) r.flow 0) ≡ r.flow)
+      (λ r j. below_one (end r) (λ v. r.flow) s.points (point r j)) s.reaches formed.joined)
 
   pub ends_balance : Lawful s → inflow s s.inlet + inflow s s.outlet ≡ outflow s s.inlet + outflow s s.outlet
   ends_balance lawful =
       differ_at_two (inflow s) (outflow s) s.inlet s.outlet s.points
       formed.inlet_point formed.outlet_point formed.apart lawful.balanced
-      (total_inflow ∙ sym total_outflow)
+      (total_flow (λ r. r.head) (λ r j. j.head_point) ∙ sym (total_flow (λ r. r.tail) (λ r j. j.tail_point)))
 
 pub value_as_below : ValueAsBelow
 value_as_below s formed lawful =
@@ -139,11 +133,7 @@ side_if_rest_is s x = (
 )
 
 leaves_turned : (x : Points) (r : Reach) → leaves x (turned_reach r) ≡ leaves (rest x) r
-leaves_turned x r =
-    elim (x r.head) as (λ h. (h && not (x r.tail)) ≡ (not (x r.tail) && not (not h))) [
-      | true ↦ elim (x r.tail) as (λ t. (true && not t) ≡ (not t && not (not true))) [ true ↦ refl | false ↦ refl ]
-      | false ↦ elim (x r.tail) as (λ t. (false && not t) ≡ (not t && not (not false))) [ true ↦ refl | false ↦ refl ]
-    ]
+leaves_turned x r = rw not-not (and_comm (x r.head) (not (x r.tail)))
 
 pub capacity_of_rest : CapacityOfRest
 capacity_of_rest s x =

@@ -1,12 +1,12 @@
 -- A register whose points are limited too.
-use Rattle.std.specs.Prelude.{ℕ, ◌+◌, ◌-◌, ◌*◌, Bool, cond, ◌&&◌, List, [], ◌++◌, map, length, nat_le, nat_lt, slice_index_or, slice_set}
+use Rattle.std.specs.Prelude.{ℕ, ◌+◌, ◌-◌, ◌*◌, Bool, cond, ◌&&◌, List, [], ◌++◌, map, length, Some, None, Option, nat_le, nat_lt, slice_index_or, slice_set}
 use Rattle.std.specs.List.{range_with_len}
 use Rattle.scheme.specs.declared.rows.Reach.{Reach}
 use Rattle.scheme.specs.Scheme.{Scheme}
 use Rattle.layers.specs.declared.junctions.Junction.{Junction}
 use Rattle.layers.specs.declared.gates.Gate.{Gate}
 use Rattle.layers.specs.declared.gates.Site.{Site}
-use Rattle.layers.specs.declared.gates.Site.TheVariants.{Below, At, Nowhere}
+use Rattle.layers.specs.declared.gates.Site.TheVariants.{Below, At}
 
 -- A junction takes each point apart (in the field: node splitting): on n points below, what comes to v
 -- arrives at v, passes v's gate, and leaves from v + n. Where v is no point below, both are 65,535,
@@ -65,13 +65,13 @@ split s gates =
 abbrev pub junction : Scheme → List Gate → Scheme
 junction s gates = cond (carriable s) (split s gates) nothing
 
--- where a junction's reach is kept
-abbrev pub site_of : Scheme → ℕ → Site
+-- where a junction's reach is kept, if it has the reach
+abbrev pub site_of : Scheme → ℕ → Option Site
 site_of s k =
     cond (carriable s)
-    (cond (nat_lt k (length s.reaches)) Below
-    (cond (nat_lt (k - length s.reaches) s.points) (At (k - length s.reaches)) Nowhere))
-    Nowhere
+    (cond (nat_lt k (length s.reaches)) (Some Below)
+    (cond (nat_lt (k - length s.reaches) s.points) (Some (At (k - length s.reaches))) None))
+    None
 
 -- A gate that nothing passes yet. A point past the end of the list may pass 1,000,000.
 abbrev pub fresh_gate : List ℕ → ℕ → Gate
@@ -84,11 +84,11 @@ fresh_gate_list limits = map (fresh_gate limits) (range_with_len 0 256)
 abbrev pub junction_over : {R : Type 0} → (R → Scheme) → Junction R → Scheme
 junction_over scheme j = junction (scheme j.below) j.gates
 
--- what is chosen by a site
-abbrev pub by_site : {X : Type 0} → X → (ℕ → X) → X → Site → X
-by_site below gate nowhere Below = below
-by_site below gate nowhere (At v) = gate v
-by_site below gate nowhere Nowhere = nowhere
+-- what is chosen by a site, or by its absence
+abbrev pub by_site : {X : Type 0} → X → (ℕ → X) → X → Option Site → X
+by_site below gate nowhere (Some Below) = below
+by_site below gate nowhere (Some (At v)) = gate v
+by_site below gate nowhere None = nowhere
 
 -- A write goes where the read of the same field comes from: to the register below if the reach is kept there,
 abbrev pub below_written : (Scheme → Scheme) → Scheme → ℕ → Scheme

@@ -1,17 +1,16 @@
 // The gates of a junction, one for each point, and where its reaches are kept.
-ghost use Rattle.std.specs.Prelude.{◌≡◌, ◌≤◌};
-ghost use Rattle.layers.specs.Junctions.{fresh_gate_list, arrival, departure};
+ghost use Rattle.std.specs.Prelude.{◌≡◌, ◌≤◌, map};
+ghost use Rattle.std.specs.List.{range_with_len};
+ghost use Rattle.layers.specs.Junctions.{fresh_gate, arrival, departure};
 
-// The most points, each with a gate, and the most reaches that a junction can stand on.
+use scheme::questions::GREATEST_LIMIT;
+use std::array;
+
+// The most points, each with a gate, that a junction can stand on.
 pub(crate) const GATES: usize = 256;
 
-pub(crate) const MOST_REACHES: usize = 8_192;
-
-// The limit of a point for which none is given.
-pub(crate) const OPEN_LIMIT: u32 = 1_000_000;
-
 // Stands for an end that is no point.
-pub(crate) const NO_POINT: u16 = 65_535;
+pub(crate) const NO_POINT: u16 = u16::MAX;
 
 // What may pass a point, and what passes it.
 #[derive(Clone, Copy)]
@@ -20,26 +19,22 @@ pub(crate) struct Gate {
     pub flow: u32,
 }
 
-// Where a junction has a reach: in the register below, under the same number, or at a point's gate.
+// Where a junction keeps a reach: in the register below, under the same number, or at a point's gate.
 #[derive(Clone, Copy)]
 pub(crate) enum Site {
     Below,
     At(u8),
-    Nowhere,
 }
 
-// Gates with these limits, in point order, that nothing passes yet.
-pub(crate) fn fresh_gates(limits: &[u32]) -> [Gate; GATES]
-    ensures { result ≡ fresh_gate_list limits.now }
+// Gates with these limits, in point order, that nothing passes yet. A point for which none is given is as open as
+// a reach may be.
+pub(crate) fn fresh_gates<const N: usize>(limits: &[u32]) -> [Gate; N]
+    ensures { result ≡ map (fresh_gate limits.now) (range_with_len 0 N) }
 {
-    let mut gates = [Gate {
-        limit: OPEN_LIMIT,
+    array::from_fn(|point| Gate {
+        limit: limits.get(point).copied().unwrap_or(GREATEST_LIMIT),
         flow: 0,
-    }; GATES];
-    for v in 0..limits.len().min(GATES) {
-        gates[v].limit = limits[v];
-    }
-    gates
+    })
 }
 
 // Where water comes to a point of the register below.

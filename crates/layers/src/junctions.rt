@@ -1,13 +1,12 @@
 // A register whose points are limited too: every point has a gate that what passes it goes through.
-ghost use Rattle.std.specs.Prelude.{◌≡◌};
+ghost use Rattle.std.specs.Prelude.{◌≡◌, IfSome, is_some, slice_index_or};
 ghost use Rattle.scheme.specs.Refusals.{book_refusal, refusal_of, unlisted};
 ghost use Rattle.scheme.specs.Scheme.{with_flow, with_limit};
 ghost use Rattle.layers.specs.Junctions.{junction_over, below_written, gates_written, gate_limited, gate_flowing};
-ghost use Rattle.layers.specs.Junctions.{carriable, junction, fresh_gate_list, site_of};
+ghost use Rattle.layers.specs.Junctions.{carriable, junction, fresh_gate_list, shut, site_of};
 
-use crate::gates::{
-    GATES, Gate, MOST_REACHES, NO_POINT, Site, arrival_at, departure_from, fresh_gates,
-};
+use crate::gates::{GATES, Gate, NO_POINT, Site, arrival_at, departure_from, fresh_gates};
+use scheme::questions::MOST_REACHES;
 use scheme::{Book, BookFault, Register};
 
 #[derive(Drop)]
@@ -46,106 +45,110 @@ impl<R> Junction<R> {
 }
 
 impl<R: Register> Junction<R> {
-    fn carries(&self) -> bool
-        ensures { result ≡ carriable (R.scheme self.now.below) }
+    // The register below, if it is one that a junction can stand on.
+    fn carried(&self) -> Option<&R>
+        ensures fits { is_some result ≡ carriable (R.scheme self.now.below) }
+        ensures same { IfSome result (λ below. below.now ≡ self.now.below) }
     {
-        usize::from(self.below.points()) <= GATES && self.below.reaches() <= MOST_REACHES
+        let fits = usize::from(self.below.points()) <= GATES
+            && self.below.reaches() <= MOST_REACHES;
+        fits.then_some(&self.below)
     }
 
-    fn site(&self, reach: usize) -> Site
+    // Where a reach is kept, if the junction has it.
+    fn site(&self, reach: usize) -> Option<Site>
         ensures { result ≡ site_of (R.scheme self.now.below) reach }
     {
-        if !self.carries() {
-            return Site::Nowhere;
-        }
-        let reaches = self.below.reaches();
+        let below = self.carried()?;
+        let reaches = below.reaches();
         if reach < reaches {
-            return Site::Below;
+            return Some(Site::Below);
         }
         let point = reach - reaches;
-        if point < usize::from(self.below.points()) {
-            Site::At(point as u8)
+        if point < usize::from(below.points()) {
+            Some(Site::At(point as u8))
         } else {
-            Site::Nowhere
+            None
         }
+    }
+
+    fn gate(&self, point: u8) -> &Gate
+        ensures { result.now ≡ slice_index_or self.now.gates point shut }
+    {
+        &self.gates[usize::from(point)]
     }
 }
 
+#[tactic(auto, using(crate::proofs::Sites::site_read, crate::proofs::Sites::length_on, crate::proofs::Mapped::mapped_mapped))]
 impl<R: Register> Register for Junction<R> {
     ghost scheme = { junction_over R.scheme };
 
     fn points(&self) -> u16 {
-        if self.carries() {
-            2 * self.below.points()
-        } else {
-            0
+        match self.carried() {
+            Some(below) => 2 * below.points(),
+            None => 0,
         }
     }
 
     fn inlet(&self) -> u16 {
-        if self.carries() {
-            arrival_at(self.below.points(), self.below.inlet())
-        } else {
-            NO_POINT
+        match self.carried() {
+            Some(below) => arrival_at(below.points(), below.inlet()),
+            None => NO_POINT,
         }
     }
 
     fn outlet(&self) -> u16 {
-        if self.carries() {
-            departure_from(self.below.points(), self.below.outlet())
-        } else {
-            NO_POINT
+        match self.carried() {
+            Some(below) => departure_from(below.points(), below.outlet()),
+            None => NO_POINT,
         }
     }
 
     fn reaches(&self) -> usize {
-        if self.carries() {
-            self.below.reaches() + usize::from(self.below.points())
-        } else {
-            0
+        match self.carried() {
+            Some(below) => below.reaches() + usize::from(below.points()),
+            None => 0,
         }
     }
 
     fn tail(&self, reach: usize) -> Option<u16> {
-        match self.site(reach) {
+        match self.site(reach)? {
             Site::Below => {
                 let tail = self.below.tail(reach)?;
                 Some(departure_from(self.below.points(), tail))
             }
             Site::At(point) => Some(u16::from(point)),
-            Site::Nowhere => None,
         }
     }
 
     fn head(&self, reach: usize) -> Option<u16> {
-        match self.site(reach) {
+        match self.site(reach)? {
             Site::Below => {
                 let head = self.below.head(reach)?;
                 Some(arrival_at(self.below.points(), head))
             }
             Site::At(point) => Some(u16::from(point) + self.below.points()),
-            Site::Nowhere => None,
         }
     }
 
     fn limit(&self, reach: usize) -> Option<u32> {
-        match self.site(reach) {
+        match self.site(reach)? {
             Site::Below => self.below.limit(reach),
-            Site::At(point) => Some(self.gates[usize::from(point)].limit),
-            Site::Nowhere => None,
+            Site::At(point) => Some(self.gate(point).limit),
         }
     }
 
     fn flow(&self, reach: usize) -> Option<u32> {
-        match self.site(reach) {
+        match self.site(reach)? {
             Site::Below => self.below.flow(reach),
-            Site::At(point) => Some(self.gates[usize::from(point)].flow),
-            Site::Nowhere => None,
+            Site::At(point) => Some(self.gate(point).flow),
         }
     }
 }
 
-// What the book below keeps, the junction keeps.
+// What the book below keeps, the junction keeps. The two writes have one shape: a method for both would take the write
+// below and the write to the gate as closures, and is no plainer.
+#[tactic(auto, using(crate::proofs::SiteWrites::site_refused))]
 impl<B: Book> Book for Junction<B> {
     ghost kept = { λ j. B.kept j.below };
 
@@ -159,13 +162,12 @@ impl<B: Book> Book for Junction<B> {
         ensures gates { self.new.gates
             ≡ gates_written (gate_limited limit) (B.scheme self.old.below) self.old.gates reach }
     {
-        match self.site(reach) {
+        match self.site(reach).ok_or(BookFault::NoReach(reach))? {
             Site::Below => self.below.set_limit(reach, limit),
             Site::At(point) => {
                 self.gates[usize::from(point)].limit = limit;
                 Ok(())
             }
-            Site::Nowhere => Err(BookFault::NoReach(reach)),
         }
     }
 
@@ -179,13 +181,12 @@ impl<B: Book> Book for Junction<B> {
         ensures gates { self.new.gates
             ≡ gates_written (gate_flowing flow) (B.scheme self.old.below) self.old.gates reach }
     {
-        match self.site(reach) {
+        match self.site(reach).ok_or(BookFault::NoReach(reach))? {
             Site::Below => self.below.set_flow(reach, flow),
             Site::At(point) => {
                 self.gates[usize::from(point)].flow = flow;
                 Ok(())
             }
-            Site::Nowhere => Err(BookFault::NoReach(reach)),
         }
     }
 }

@@ -11,6 +11,7 @@ pub struct Turned<R> {
     below: R,
 }
 
+// Each layer has `below` and `into_below`: a trait for them would state their contracts once more, and is no plainer.
 impl<R> Turned<R> {
     pub fn new(below: R) -> Turned<R>
         ensures { result.below ≡ below }
@@ -34,6 +35,7 @@ impl<R> Turned<R> {
     }
 }
 
+#[tactic(auto, using(crate::proofs::Mapped::field_of_map))]
 impl<R: Register> Register for Turned<R> {
     ghost scheme = { λ t. turned (R.scheme t.below) };
 

@@ -1,6 +1,4 @@
 pub mod Keys
 pub mod Calls
-pub mod Best
 pub mod Order
 pub mod Links
-pub mod Begun

@@ -1,200 +1,278 @@
--- What a heap's entries mean, while they change places.
-use Rattle.std.proofs.Common.{◌≡◌, ℕ, ◌+◌, ◌<◌, ◌≤◌, ◌≢◌, set, Some, None, Option, sym, refl, ap, ◌∙◌, subst, ⊎_elim, zero-add, arith}
-use Rattle.std.proofs.lemmas.List.{ext_get_or, get_or-set_same, get_or-set_other, length-set}
-use Rattle.std.proofs.lemmas.List.FromFn.{length-map-range_with_len, get_or-map-range_with_len}
-use Rattle.std.proofs.lemmas.Bool.{cases_lt, cases_eq, lt-ltb, le-ltb}
-use Rattle.scheme.specs.Bounds.{most_points}
+-- What a tree's entries mean, while they change.
+use Rattle.std.proofs.Common.{◌≡◌, ℕ, ◌+◌, ◌<◌, ◌≢◌, List, [], ◌∷◌, ◌++◌, length, set, Some, None, Option, sym, refl, ap, ◌∙◌, ⊎_elim, arith}
+use Rattle.std.specs.Option.{option_map}
+use Rattle.std.proofs.Math.ListN.{get_or-map}
+use Rattle.std.proofs.Math.Seq.{get_or-append_seam}
+use Rattle.std.proofs.lemmas.List.{ext_get_or, get_or_past, get_or-set_same, get_or-set_other, get_or_append_left, get_or-append_right, length-set, length-map, length-append}
+use Rattle.std.proofs.lemmas.Bool.{cases_eq}
+use Rattle.pick.specs.declared.trees.Entry.{Entry}
+use Rattle.pick.specs.declared.trees.Tree.{Tree}
 use Rattle.pick.specs.Keys.{Keys, size, key_of, Outside}
-use Rattle.pick.specs.Trees.{key_from, held_by, Inverse, Exchanged}
-use Rattle.pick.proofs.Keys.{outside_below}
+use Rattle.pick.specs.Calls.{fresh}
+use Rattle.pick.specs.Entries.{entry_at, point_at, key_at, place_of, There, Back, held_by}
+use Rattle.pick.specs.Trees.{held_in, Exchanged}
+use Rattle.pick.proofs.Keys.{key_of_fresh}
 
-pub from_used : (key : ℕ → ℕ) (n i : ℕ) → i < n → key_from key n i ≡ Some (key i)
-from_used key n i less = rw (lt-ltb i n less) refl
+-- a place that two ways to read keys agree about tells the same key
+same_key : (key key' : ℕ → ℕ) (o : Option ℕ) → ((i : ℕ) → o ≡ Some i → key' i ≡ key i) → option_map key' o ≡ option_map key o
+same_key key key' None same = refl
+same_key key key' (Some i) same = ap Some (same i refl)
 
-pub from_unused : (key : ℕ → ℕ) (n i : ℕ) → n ≤ i → key_from key n i ≡ None
-from_unused key n i past = rw (le-ltb i n past) refl
+no_key : (key : ℕ → ℕ) (o : Option ℕ) → option_map key o ≡ None → o ≡ None
+no_key key None none = refl
+no_key key (Some i) none = absurd (cc)
 
-pub held_size : (key place : ℕ → ℕ) (n : ℕ) → size (held_by key place n) ≡ most_points
-unfolding held_by
-held_size key place n = length-map-range_with_len (λ v. key_from key n (place v)) 0 most_points
+some_key : (key : ℕ → ℕ) (o : Option ℕ) (k : ℕ) → option_map key o ≡ Some k → (i : ℕ) × (o ≡ Some i) × (k ≡ key i)
+some_key key None k is = absurd (cc)
+some_key key (Some i) k is = (i, refl, (cc))
 
-pub held_at : (key place : ℕ → ℕ) (n v : ℕ) → v < most_points → key_of (held_by key place n) v ≡ key_from key n (place v)
-unfolding held_by
-held_at key place n v less = get_or-map-range_with_len (λ v. key_from key n (place v)) 0 most_points v v None less (zero-add v)
+module _ (es : List Entry) (ps : List (Option ℕ)) where
+  pub held_size : size (held_by es ps) ≡ length ps
+  unfolding held_by
+  held_size = length-map ps (option_map (key_at es))
 
--- a list with the key of each point is what is held
-pub held_is : (key place : ℕ → ℕ) (n : ℕ) (ks : Keys) → size ks ≡ most_points → ((v : ℕ) → v < most_points → key_from key n (place v) ≡ key_of ks v) → held_by key place n ≡ ks
-held_is key place n ks all each =
-    ext_get_or None (held_by key place n) ks (held_size key place n ∙ sym all)
-    (λ v less.
-    let below : v < most_points = omega (arith, held_size key place n) in
-    held_at key place n v below ∙ each v below)
+  pub held_at : (v : ℕ) → key_of (held_by es ps) v ≡ option_map (key_at es) (place_of ps v)
+  unfolding held_by
+  held_at v = get_or-map (option_map (key_at es)) ps v None
 
-module _ (key place : ℕ → ℕ) (n : ℕ) (key' place' : ℕ → ℕ) (n' : ℕ) where
-  pub held_same : ((v : ℕ) → v < most_points → key_from key' n' (place' v) ≡ key_from key n (place v)) → held_by key' place' n' ≡ held_by key place n
+  -- a list with the key of each point is what is held
+  pub held_is : (ks : Keys) → length ps ≡ size ks → ((v : ℕ) → option_map (key_at es) (place_of ps v) ≡ key_of ks v) → held_by es ps ≡ ks
+  held_is ks all each =
+      ext_get_or None (held_by es ps) ks (held_size ∙ all) (λ v less. held_at v ∙ each v)
+
+  -- an outside point has a place, and there its key
+  pub outside_place : (v k : ℕ) → Outside (held_by es ps) v k → (i : ℕ) × (place_of ps v ≡ Some i) × (k ≡ key_at es i)
+  outside_place v k out = some_key (key_at es) (place_of ps v) k (sym (held_at v) ∙ out)
+
+  -- an inside point has none
+  pub inside_place : (v : ℕ) → key_of (held_by es ps) v ≡ None → place_of ps v ≡ None
+  inside_place v inside = no_key (key_at es) (place_of ps v) (sym (held_at v) ∙ inside)
+
+-- no point has a place
+module _ (es : List Entry) (n : ℕ) where
+  pub none_back : Back es (fresh n)
+  none_back v i here = let none = key_of_fresh n v in absurd (cc)
+
+  pub none_held : held_by es (fresh n) ≡ fresh n
+  none_held =
+      held_is es (fresh n) (fresh n) refl
+      (λ v. let none = key_of_fresh n v in ap (option_map (key_at es)) none ∙ sym none)
+
+pub placed_known : (ps : List (Option ℕ)) (v i : ℕ) → place_of ps v ≡ Some i → v < length ps
+placed_known ps v i here = grind (arith, get_or_past)
+
+module _ (es es' : List Entry) (ps ps' : List (Option ℕ)) (all : length ps' ≡ length ps) where
+  held_same : ((v : ℕ) → option_map (key_at es') (place_of ps' v) ≡ option_map (key_at es) (place_of ps v)) → held_by es' ps' ≡ held_by es ps
   held_same each =
-      held_is key' place' n' (held_by key place n) (held_size key place n) (λ v less. each v less ∙ sym (held_at key place n v less))
+      held_is es' ps' (held_by es ps) (all ∙ sym (held_size es ps)) (λ v. each v ∙ sym (held_at es ps v))
 
   -- just one point has another key
-  pub held_set : (u : ℕ) (k : Option ℕ) → u < most_points → key_from key' n' (place' u) ≡ k → ((v : ℕ) → v < most_points → (v ≡ u → ⊥) → key_from key' n' (place' v) ≡ key_from key n (place v)) → held_by key' place' n' ≡ set (held_by key place n) u k
+  held_set : (u : ℕ) (k : Option ℕ) → u < length ps → option_map (key_at es') (place_of ps' u) ≡ k → ((v : ℕ) → v ≢ u → option_map (key_at es') (place_of ps' v) ≡ option_map (key_at es) (place_of ps v)) → held_by es' ps' ≡ set (held_by es ps) u k
   held_set u k known new others =
-      let held : Keys = held_by key place n in
-      let all : size held ≡ most_points = held_size key place n in
-      held_is key' place' n' (set held u k) (length-set held u k ∙ all)
-      (λ v less.
+      let held : Keys = held_by es ps in
+      held_is es' ps' (set held u k) (all ∙ sym (length-set held u k ∙ held_size es ps))
+      (λ v.
       ⊎_elim
-      (λ same.
-      subst (λ w. key_from key' n' (place' w) ≡ key_of (set held u k) w) (sym same)
-      (new ∙ sym (get_or-set_same held u k None (omega arith))))
-      (λ off. others v less off ∙ sym (held_at key place n v less) ∙ sym (get_or-set_other held u v k None off))
+      (λ same. grind (arith, get_or-set_same, held_size))
+      (λ off. others v off ∙ sym (held_at es ps v) ∙ sym (get_or-set_other held u v k None off))
       (cases_eq v u))
 
--- the place of an outside point's entry
-module _ (key place : ℕ → ℕ) (n v k : ℕ) (out : Outside (held_by key place n) v k) where
-  pub outside_known : v < most_points
-  outside_known = omega (arith, outside_below (held_by key place n) v k out, held_size key place n)
+-- points and places are inverse to each other, and these keys are what they mean
+pub record Tells (es : List Entry) (ps : List (Option ℕ)) (ks : Keys) : Type 0 where
+  pub there : There es ps
+  pub back : Back es ps
+  pub held : held_by es ps ≡ ks
 
-  pub outside_used : place v < n
-  outside_used =
-      ⊎_elim
-      (λ used. used)
-      (λ unused. let none = sym (from_unused key n (place v) unused) ∙ sym (held_at key place n v outside_known) in grind arith)
-      (cases_lt (place v) n)
+module _ (t : Tree) where
+  abbrev es : List Entry
+  es = t.entries.items
 
-  pub outside_key : k ≡ key (place v)
-  outside_key = let some = sym (from_used key n (place v) outside_used) ∙ sym (held_at key place n v outside_known) in cc
+  abbrev ps : List (Option ℕ)
+  ps = t.places
 
-module _ (point place : ℕ → ℕ) (n : ℕ) (links : Inverse point place n) where
+  point_known : (i : ℕ) → i < length es → point_at es i < length ps
+  point_known i used = grind (arith, placed_known)
+
   -- no two places have entries of the same point
-  pub points_apart : (i j : ℕ) → i < n → j < n → (i ≡ j → ⊥) → point i ≡ point j → ⊥
-  points_apart i j used-i used-j off same = off (sym (links.there i used-i) ∙ ap place same ∙ links.there j used-j)
+  points_apart : (i j : ℕ) → i < length es → j < length es → i ≢ j → point_at es i ≢ point_at es j
+  points_apart i j used-i used-j off same = grind arith
 
-  pub places_apart : (i v : ℕ) → i < n → v < most_points → (v ≡ point i → ⊥) → place v ≡ i → ⊥
-  places_apart i v used known off same = off (sym (links.back v known (omega arith)) ∙ ap point same)
+  -- the place of another point is another
+  places_apart : (i v j : ℕ) → v ≢ point_at es i → place_of ps v ≡ Some j → j ≢ i
+  places_apart i v j off here same = grind arith
 
-  pub entry_outside : (key : ℕ → ℕ) (i : ℕ) → i < n → Outside (held_by key place n) (point i) (key i)
-  entry_outside key i used =
-      held_at key place n (point i) (links.known i used)
-      ∙ ap (key_from key n) (links.there i used)
-      ∙ from_used key n i used
+  -- one more point has an entry
+  module _ (v k n : ℕ) (inside : place_of ps v ≡ None) (known : v < length ps) (all : length es ≡ n) where
+    abbrev more : List Entry
+    more = es ++ record { point = v; key = k } ∷ []
 
-  -- the key at one place is another
-  pub held_key : (key key' : ℕ → ℕ) (at : ℕ) → at < n → ((i : ℕ) → (i ≡ at → ⊥) → key' i ≡ key i) → held_by key' place n ≡ set (held_by key place n) (point at) (Some (key' at))
-  held_key key key' at used kept =
-      held_set key place n key' place n (point at) (Some (key' at)) (links.known at used)
-      (ap (key_from key' n) (links.there at used) ∙ from_used key' n at used)
-      (λ v known off.
-      ⊎_elim
-      (λ in_use.
-      from_used key' n (place v) in_use
-      ∙ ap Some (kept (place v) (places_apart at v used known off))
-      ∙ sym (from_used key n (place v) in_use))
-      (λ past. from_unused key' n (place v) past ∙ sym (from_unused key n (place v) past))
-      (cases_lt (place v) n))
+    entry_kept : (i : ℕ) → i < n → entry_at more i ≡ entry_at es i
+    entry_kept i used = get_or_append_left es _ _ i (omega arith)
+
+    entry_new : entry_at more n ≡ record { point = v; key = k }
+    entry_new = grind (arith, get_or-append_right)
+
+    place_new : place_of (set ps v (Some n)) v ≡ Some n
+    place_new = get_or-set_same ps v (Some n) None known
+
+    place_kept : (u : ℕ) → u ≢ v → place_of (set ps v (Some n)) u ≡ place_of ps u
+    place_kept u off = get_or-set_other ps v u (Some n) None off
+
+    more_there : There more (set ps v (Some n))
+    more_there i used = grind (arith, entry_kept, entry_new, place_new, place_kept, length-append {A = Entry})
+
+    more_back : Back more (set ps v (Some n))
+    more_back u i here =
+        ⊎_elim
+        (λ same. grind (arith, place_new, entry_new, length-append {A = Entry}))
+        (λ off.
+        let found : (i < length es) × (point_at es i ≡ u) = t.back u i (sym (place_kept u off) ∙ here) in
+        grind (arith, entry_kept, length-append {A = Entry}))
+        (cases_eq u v)
+
+    pub more_keys : ((i : ℕ) → i < n → key_at es i ≡ k) → (i : ℕ) → i < n + 1 → key_at more i ≡ k
+    more_keys same = grind (arith, entry_kept, entry_new)
+
+    more_held : held_by more (set ps v (Some n)) ≡ set (held_by es ps) v (Some k)
+    more_held =
+        held_set es more ps (set ps v (Some n)) (length-set ps v (Some n)) v (Some k) known
+        (ap (option_map (key_at more)) place_new ∙ ap (λ x. Some x.key) entry_new)
+        (λ u off.
+        ap (option_map (key_at more)) (place_kept u off)
+        ∙ same_key (key_at es) (key_at more) (place_of ps u)
+        (λ i here. ap (λ x. x.key) (entry_kept i (omega (arith, (t.back u i here).0)))))
+
+    pub one_more : Tells more (set ps v (Some n)) (set (held_in t) v (Some k))
+    one_more = record { there = more_there; back = more_back; held = more_held }
 
   -- two entries have changed places
-  module _ (point' place' : ℕ → ℕ) (a b : ℕ) (used-a : a < n) (used-b : b < n) (points : Exchanged point point' a b) (places : Exchanged place place' (point a) (point b)) where
-    place_a : place' (point a) ≡ b
-    place_a = places.first ∙ links.there b used-b
+  module _ (es' : List Entry) (ps' : List (Option ℕ)) (a b : ℕ) (used-a : a < length es) (used-b : b < length es) (as_many : length es' ≡ length es) (all : length ps' ≡ length ps) (entries : Exchanged (entry_at es) (entry_at es') a b) (places : Exchanged (place_of ps) (place_of ps') (point_at es a) (point_at es b)) where
+    place_a : place_of ps' (point_at es a) ≡ Some b
+    place_a = places.first ∙ t.there b used-b
 
-    place_b : place' (point b) ≡ a
-    place_b = places.second ∙ links.there a used-a
+    place_b : place_of ps' (point_at es b) ≡ Some a
+    place_b = places.second ∙ t.there a used-a
 
-    place_off : (i : ℕ) → i < n → (i ≡ a → ⊥) → (i ≡ b → ⊥) → place' (point i) ≡ i
-    place_off i used off-a off-b =
-        places.others (point i) (points_apart i a used used-a off-a) (points_apart i b used used-b off-b)
-        ∙ links.there i used
+    swap_there : There es' ps'
+    swap_there i used' = grind (arith, place_a, place_b, points_apart, places_apart)
 
-    swapped_there : (i : ℕ) → i < n → (point' i < most_points) × (place' (point' i) ≡ i)
-    swapped_there i used =
+    swap_back : Back es' ps'
+    swap_back v i here =
         ⊎_elim
-        (λ at_a.
-        let e : point' i ≡ point b = ap point' at_a ∙ points.first in
-        (omega (arith, links.known b used-b), ap place' e ∙ place_b ∙ sym at_a))
+        (λ at-a. grind (arith, place_a))
         (λ off-a.
         ⊎_elim
-        (λ at_b.
-        let e : point' i ≡ point a = ap point' at_b ∙ points.second in
-        (omega (arith, links.known a used-a), ap place' e ∙ place_a ∙ sym at_b))
+        (λ at-b. grind (arith, place_b))
         (λ off-b.
-        let e : point' i ≡ point i = points.others i off-a off-b in
-        (omega (arith, links.known i used), ap place' e ∙ place_off i used off-a off-b))
-        (cases_eq i b))
-        (cases_eq i a)
+        let was : place_of ps v ≡ Some i = sym (places.others v off-a off-b) ∙ here in
+        let found : (i < length es) × (point_at es i ≡ v) = t.back v i was in
+        grind (arith, places_apart))
+        (cases_eq v (point_at es b)))
+        (cases_eq v (point_at es a))
 
-    -- what stands at each point's place is still there
-    moved : (f f' : ℕ → ℕ) → Exchanged f f' a b → (v : ℕ) → v < most_points → place v < n → f' (place' v) ≡ f (place v)
-    moved f f' change v known used =
+    swap_held : held_by es' ps' ≡ held_by es ps
+    swap_held =
+        held_same es es' ps ps' all
+        (λ v.
         ⊎_elim
-        (λ at_a. ap f' (ap place' at_a ∙ place_a) ∙ change.second ∙ sym (ap f (ap place at_a ∙ links.there a used-a)))
+        (λ at-a.
+        grind (arith, place_a))
         (λ off-a.
         ⊎_elim
-        (λ at_b. ap f' (ap place' at_b ∙ place_b) ∙ change.first ∙ sym (ap f (ap place at_b ∙ links.there b used-b)))
+        (λ at-b.
+        grind (arith, place_b))
         (λ off-b.
-        ap f' (places.others v off-a off-b)
-        ∙ change.others (place v) (places_apart a v used-a known off-a) (places_apart b v used-b known off-b))
-        (cases_eq v (point b)))
-        (cases_eq v (point a))
+        ap (option_map (key_at es')) (places.others v off-a off-b)
+        ∙ same_key (key_at es) (key_at es') (place_of ps v)
+        (λ i here. ap (λ x. x.key) (entries.others i (places_apart a v i off-a here) (places_apart b v i off-b here))))
+        (cases_eq v (point_at es b)))
+        (cases_eq v (point_at es a)))
 
-    still_used : (v : ℕ) → (place v < n → place' v < n) × (place' v < n → place v < n)
-    still_used v =
-        ⊎_elim
-        (λ at_a. (λ used. omega (arith, ap place' at_a, place_a), λ used. omega (arith, ap place at_a, links.there a used-a)))
-        (λ off-a.
-        ⊎_elim
-        (λ at_b. (λ used. omega (arith, ap place' at_b, place_b), λ used. omega (arith, ap place at_b, links.there b used-b)))
-        (λ off-b. (λ used. omega (arith, places.others v off-a off-b), λ used. omega (arith, places.others v off-a off-b)))
-        (cases_eq v (point b)))
-        (cases_eq v (point a))
+    pub swapped : Tells es' ps' (held_in t)
+    swapped = record { there = swap_there; back = swap_back; held = swap_held }
 
-    pub swap_links : Inverse point' place' n
-    swap_links =
-        record {
-          known = λ i used. (swapped_there i used).0;
-          there = λ i used. (swapped_there i used).1;
-          back = λ v known used'.
-              let used = (still_used v).1 used' in
-              moved point point' points v known used ∙ links.back v known used;
-        }
+  -- the entry at one place has another key
+  module _ (at k : ℕ) (used : at < length es) where
+    abbrev keyed : List Entry
+    keyed = set es at (record { point = point_at es at; key = k })
 
-    pub swap_held : (key key' : ℕ → ℕ) → Exchanged key key' a b → held_by key' place' n ≡ held_by key place n
-    swap_held key key' change =
-        held_same key place n key' place' n
-        (λ v known.
-        ⊎_elim
-        (λ used.
-        from_used key' n (place' v) ((still_used v).0 used)
-        ∙ ap Some (moved key key' change v known used)
-        ∙ sym (from_used key n (place v) used))
-        (λ past.
-        ⊎_elim
-        (λ used'. absurd (omega (arith, (still_used v).1 used')))
-        (λ past'. from_unused key' n (place' v) past' ∙ sym (from_unused key n (place v) past))
-        (cases_lt (place' v) n))
-        (cases_lt (place v) n))
+    keyed_here : entry_at keyed at ≡ record { point = point_at es at; key = k }
+    keyed_here = get_or-set_same es at _ _ used
 
-  -- the entry at the last place is gone, and its point has no place any more
-  module _ (place' : ℕ → ℕ) (last : ℕ) (less : last < n) (most : n ≤ last + 1) (gone : last ≤ place' (point last)) (kept : (v : ℕ) → (v ≡ point last → ⊥) → place' v ≡ place v) where
-    pub drop_links : Inverse point place' last
-    drop_links =
-        record {
-          known = λ i used. links.known i (omega arith);
-          there = λ i used.
-              kept (point i) (points_apart i last (omega arith) less (λ same. omega arith)) ∙ links.there i (omega arith);
-          back = λ v known used.
-              let off : v ≢ point last = λ same. omega (arith, ap place' same) in
-              let e : place' v ≡ place v = kept v off in
-              ap point e ∙ links.back v known (omega arith);
-        }
+    keyed_off : (i : ℕ) → i ≢ at → entry_at keyed i ≡ entry_at es i
+    keyed_off i off = get_or-set_other es at i _ _ off
 
-    pub drop_held : (key : ℕ → ℕ) → held_by key place' last ≡ set (held_by key place n) (point last) None
-    drop_held key =
-        held_set key place n key place' last (point last) None (links.known last less) (from_unused key last (place' (point last)) gone)
-        (λ v known off.
-        let e : place' v ≡ place v = kept v off in
-        let apart : place v ≢ last = places_apart last v less known off in
-        ap (key_from key last) e
-        ∙ ⊎_elim
-        (λ used. from_used key last (place v) used ∙ sym (from_used key n (place v) (omega arith)))
-        (λ past. from_unused key last (place v) past ∙ sym (from_unused key n (place v) (omega arith)))
-        (cases_lt (place v) last))
+    points_stay : (i : ℕ) → point_at keyed i ≡ point_at es i
+    points_stay i = grind (arith, keyed_here, keyed_off)
+
+    key_there : There keyed ps
+    key_there i low = grind (arith, points_stay, length-set {A = Entry})
+
+    key_back : Back keyed ps
+    key_back v i here =
+        let found : (i < length es) × (point_at es i ≡ v) = t.back v i here in
+        grind (arith, points_stay, length-set {A = Entry})
+
+    key_held : held_by keyed ps ≡ set (held_by es ps) (point_at es at) (Some k)
+    key_held =
+        held_set es keyed ps ps refl (point_at es at) (Some k) (point_known at used)
+        (ap (option_map (key_at keyed)) (t.there at used) ∙ ap (λ x. Some x.key) keyed_here)
+        (λ v off.
+        same_key (key_at es) (key_at keyed) (place_of ps v)
+        (λ i here. ap (λ x. x.key) (keyed_off i (places_apart at v i off here))))
+
+    pub another_key : Tells keyed ps (set (held_in t) (point_at es at) (Some k))
+    another_key = record { there = key_there; back = key_back; held = key_held }
+
+  -- the last entry is gone, and its point has no place any more
+  module _ (es' : List Entry) (taken : Entry) (parts : es ≡ es' ++ taken ∷ []) where
+    pub as_many : length es ≡ length es' + 1
+    as_many = ap length parts ∙ length-append es' (taken ∷ [])
+
+    pub entry_last : entry_at es (length es') ≡ taken
+    entry_last = ap (λ xs. entry_at xs (length es')) parts ∙ get_or-append_seam es' taken [] _
+
+    pub kept : (i : ℕ) → i < length es' → entry_at es' i ≡ entry_at es i
+    kept i low = sym (ap (λ xs. entry_at xs i) parts ∙ get_or_append_left es' (taken ∷ []) _ i low)
+
+    place_last : place_of ps taken.point ≡ Some (length es')
+    place_last = ap (λ x. place_of ps x.point) (sym entry_last) ∙ t.there (length es') (omega (arith, as_many))
+
+    pub taken_known : taken.point < length ps
+    taken_known = placed_known ps taken.point (length es') place_last
+
+    pub taken_outside : Outside (held_by es ps) taken.point taken.key
+    taken_outside =
+        held_at es ps taken.point ∙ ap (option_map (key_at es)) place_last ∙ ap (λ x. Some x.key) entry_last
+
+    abbrev fewer : List (Option ℕ)
+    fewer = set ps taken.point None
+
+    place_stays : (v : ℕ) → v ≢ taken.point → place_of fewer v ≡ place_of ps v
+    place_stays v off = get_or-set_other ps taken.point v None None off
+
+    place_gone : place_of fewer taken.point ≡ None
+    place_gone = get_or-set_same ps taken.point None None taken_known
+
+    -- an entry of another point is not the last
+    stays_below : (v i : ℕ) → v ≢ taken.point → place_of ps v ≡ Some i → i < length es'
+    stays_below v i off here =
+        let found : (i < length es) × (point_at es i ≡ v) = t.back v i here in
+        grind (arith, as_many, entry_last)
+
+    drop_there : There es' fewer
+    drop_there i low = grind (arith, kept, place_stays, place_gone, points_apart, entry_last, as_many, stays_below)
+
+    drop_back : Back es' fewer
+    drop_back v i here = grind (arith, kept, place_stays, place_gone, points_apart, entry_last, as_many, stays_below)
+
+    drop_held : held_by es' fewer ≡ set (held_by es ps) taken.point None
+    drop_held =
+        held_set es es' ps fewer (length-set ps taken.point None) taken.point None taken_known
+        (ap (option_map (key_at es')) place_gone)
+        (λ v off.
+        ap (option_map (key_at es')) (place_stays v off)
+        ∙ same_key (key_at es) (key_at es') (place_of ps v) (λ i here. ap (λ x. x.key) (kept i (stays_below v i off here))))
+
+    pub one_fewer : Tells es' fewer (set (held_in t) taken.point None)
+    one_fewer = record { there = drop_there; back = drop_back; held = drop_held }

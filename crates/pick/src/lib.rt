@@ -1,8 +1,8 @@
 // The priority queue over points that the ordering asks, and the kinds of it.
 #![tactic(auto)]
 
-pub mod either;
 pub mod heaps;
+mod kinds;
 pub mod picks;
 pub mod scans;
 mod trees;

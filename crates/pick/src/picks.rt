@@ -1,13 +1,17 @@
 // The interface of a pick: a key for each point, and which points are still outside.
-ghost use Rattle.std.specs.Prelude.{◌≡◌};
+ghost use Rattle.std.specs.Prelude.{◌≡◌, ◌+◌, ◌<◌, ◌≤◌, MatchResult, SomeIff};
+ghost use Rattle.scheme.specs.Bounds.{most_points};
 ghost use Rattle.scheme.specs.Refusals.{pick_refusal, refusal_of};
 ghost use Rattle.pick.specs.Keys.{Keys, size};
-ghost use Rattle.pick.specs.Calls.{ask_start, after_start, ask_raise, after_raise, Takes};
+ghost use Rattle.pick.specs.Calls.{ask_start, after_start, ask_raise, after_raise, greatest_key, Takes};
 
 use scheme::PickFault;
 
 // the greatest key that a point may have
 pub const GREATEST_KEY: u64 = 1 << 40;
+
+// the size of each pick of this crate: as many points as a register may have
+pub(crate) const SIZE: usize = 512;
 
 // A priority queue over points whose keys only grow. `held` is all that it means: its size, and the key of
 // each point that is outside. A refused call changes nothing, and the size stays.
@@ -31,4 +35,22 @@ pub trait Pick {
     fn take(&mut self) -> Option<(u16, u64)>
         ensures takes { Takes (held self.old) result (held self.new) }
         ensures size { size (held self.new) ≡ size (held self.old) };
+}
+
+// The number of points that start, if there is room for them.
+pub(crate) fn fitting(points: u16) -> Result<usize, PickFault>
+    ensures { MatchResult result (λ n. (n ≡ points) × (n ≤ most_points)) (λ fault. (fault ≡ PickFault.TooSmall) × (most_points < points)) }
+{
+    let points = usize::from(points);
+    if points > SIZE {
+        return Err(PickFault::TooSmall);
+    }
+    Ok(points)
+}
+
+// The raised key, if it stays within the greatest.
+pub(crate) fn raised(key: u64, by: u64) -> Option<u64>
+    ensures { SomeIff result (key + by ≤ greatest_key) (key + by) }
+{
+    key.checked_add(by).filter(|raised| *raised <= GREATEST_KEY)
 }

@@ -1,5 +1,5 @@
 // What every pick of size 512 does, whatever its kind.
-use crate::either::Either;
+use crate::Either;
 use crate::heaps::Heap;
 use crate::picks::Pick;
 use crate::scans::Scan;
@@ -20,9 +20,10 @@ fn heap(rt: HostRuntime) -> Result<(), Fail> {
 // One list holds picks of both kinds.
 #[test]
 fn either_of_two_kinds(rt: HostRuntime) -> Result<(), Fail> {
-    let mut picks: [Either<Scan, Either<Scan, Scan>>; 2] = [
-        Either::First(Scan::new()),
-        Either::Second(Either::Second(Scan::new())),
+    let mut picks: [Either<Scan, Either<Heap, Scan>>; 3] = [
+        Either::Left(Scan::new()),
+        Either::Right(Either::Left(Heap::new())),
+        Either::Right(Either::Right(Scan::new())),
     ];
     for pick in picks.iter_mut() {
         trials(&rt, pick)?;
@@ -44,10 +45,7 @@ enum Step {
 }
 
 fn told(answer: Result<(), PickFault>) -> Option<Refusal> {
-    match answer {
-        Ok(()) => None,
-        Err(fault) => Some(fault.refusal()),
-    }
+    answer.err().map(Refusal::from)
 }
 
 fn refusal(number: u16, place: usize) -> Option<Refusal> {
@@ -154,6 +152,21 @@ fn tie<P: Pick>(rt: &impl Abort, pick: &mut P) -> Result<(), Fail> {
     assert!(rt; first == 0 || first == 2, "tie");
     let other = if first == 0 { 2 } else { 0 };
     walk(rt, pick, "tie", &[Step::Take(other, 7), Step::Take(1, 6)]);
+    Ok(())
+}
+
+// Of equal keys the scan takes the smallest number first. The interface does not promise it.
+#[test]
+fn scan_takes_the_smallest_of_equal_points(rt: HostRuntime) -> Result<(), Fail> {
+    let mut pick = Scan::new();
+    walk(&rt, &mut pick, "smallest first", &TIE);
+    let taken = [
+        Step::Take(0, 7),
+        Step::Take(2, 7),
+        Step::Take(1, 6),
+        Step::Nothing,
+    ];
+    walk(&rt, &mut pick, "smallest first", &taken);
     Ok(())
 }
 

@@ -1,3 +1,1 @@
 pub mod Pages
-pub mod Pieces
-pub mod Spelling

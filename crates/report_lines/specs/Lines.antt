@@ -1,11 +1,12 @@
 -- The lines of a report.
-use Rattle.std.specs.Prelude.{ℕ, ◌+◌, cond, ◌&&◌, List, [], ◌∷◌, ◌++◌, length, ℤ, Some, None, codes, decimal, Option, ◌==◌, slice_index_or}
+use Rattle.std.specs.Prelude.{ℕ, ◌+◌, cond, ◌&&◌, List, [], ◌∷◌, ◌++◌, length, ℤ, Some, None, codes, decimal, Option, slice_index_or}
 use Rattle.std.specs.Fmt.{signed_decimal}
 use Rattle.scheme.specs.declared.rows.Reach.{Reach}
 use Rattle.scheme.specs.Flow.{value}
 use Rattle.scheme.specs.Marks.{sided}
 use Rattle.scheme.specs.Questions.{shaped}
 use Rattle.scheme.specs.Scheme.{Scheme}
+use Rattle.scheme.specs.Words.{side_from}
 
 -- a word with its space, a number and a newline
 abbrev pub number_line : List ℕ → ℕ → List ℕ
@@ -13,15 +14,6 @@ number_line word n = word ++ (decimal n ++ codes "\n")
 
 abbrev pub value_line : ℤ → List ℕ
 value_line z = codes "value " ++ (signed_decimal z ++ codes "\n")
-
--- a point that is marked, after a space; nothing for one that is not
-abbrev pub side_point : ℕ → ℕ → List ℕ
-side_point v m = cond (m == 1) (codes " " ++ decimal v) []
-
--- the points that are marked, in number order; the first mark is that of the point v
-abbrev pub side_from : ℕ → List ℕ → List ℕ
-side_from v [] = []
-side_from v (m ∷ ms) = side_point v m ++ side_from (v + 1) ms
 
 abbrev pub side_line : List ℕ → List ℕ
 side_line marks = codes "side" ++ (side_from 0 marks ++ codes "\n")

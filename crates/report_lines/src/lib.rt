@@ -3,6 +3,5 @@
 
 mod lines;
 mod page;
-mod puts;
 
 pub use page::report_line;

@@ -1,13 +1,12 @@
 // One line of a report.
 ghost use Rattle.std.specs.Prelude.{◌≡◌, ◌≤◌, [], length, slice_index_or};
-ghost use Rattle.scheme.specs.Bounds.{most_points, most_reaches};
-ghost use Rattle.scheme.specs.Flow.{value};
+ghost use Rattle.scheme.specs.Bounds.{most_points};
 ghost use Rattle.scheme.specs.Scheme.{flow_at};
-ghost use Rattle.report_lines.specs.Laid.{Lays, written};
+ghost use Rattle.report_lines.specs.Laid.{written};
 ghost use Rattle.report_lines.specs.Lines.{flow_told, lines_of_report, line_bytes};
 
-use crate::lines::{put_flow_line, put_number_line, put_side_line, put_value_line};
-use scheme::{Register, is_side_of_shaped, value_unasked};
+use crate::lines::{Line, flow_text, number_text, side_text};
+use scheme::{Few, Register, is_side_of_shaped};
 
 // Writes a line of a report, counted from 0, at the start of the table, and answers its length. It writes nothing and
 // answers 0 past the last line, for a register without the shape that is asked for, and for marks that are no side.
@@ -21,52 +20,49 @@ pub fn report_line<R: Register>(
     ensures told { result ≡ length (line_bytes (R.scheme register.now) marks.now rounds line) }
     ensures table { table.new
         ≡ written (line_bytes (R.scheme register.now) marks.now rounds line) table.old }
+    ensures fits { result ≤ 4096 }
 {
     if !is_side_of_shaped(register, marks) {
         return 0;
     }
-    put_line(register, marks, rounds, line, table)
+    put_line(&line_text(&Few { register }, marks, rounds, line), table)
 }
 
-fn put_line<R: Register>(
-    register: &R,
-    marks: &[u8],
-    rounds: u64,
-    line: usize,
-    table: &mut [u8],
-) -> usize
-    requires register_len_bound { length (R.scheme register.now).reaches ≤ most_reaches }
-    requires marks_len_bound { length marks.now ≤ most_points }
-    requires table_len { length table.old ≡ 4096 }
-    ensures { Lays 0 (slice_index_or (lines_of_report (R.scheme register.now) marks.now rounds) line [])
-        table.old table.new result }
+// Copies a line to the start of the table, and answers its length.
+fn put_line(line: &Line, table: &mut [u8; 4096]) -> usize
+    ensures told { result ≡ length line.now.bytes }
+    ensures table { table.new ≡ written line.now.bytes table.old }
+    ensures fits { result ≤ 4096 }
 {
+    let bytes = line.as_str().as_bytes();
+    table[..bytes.len()].copy_from_slice(bytes);
+    bytes.len()
+}
+
+// The text of a line, or none past the last. A line is asked for by its place on the page: an enum of the lines would
+// only be made from a place by this same match, and then be written by a second one.
+fn line_text<R: Register>(few: &Few<'_, R>, marks: &[u8], rounds: u64, line: usize) -> Line
+    requires { length marks.now ≤ most_points }
+    ensures { result.bytes
+        ≡ slice_index_or (lines_of_report (R.scheme few.now.register.now) marks.now rounds) line [] }
+{
+    let register = few.register;
     match line {
-        0 => put_number_line(table, b"points ", u64::from(register.points())),
-        1 => put_number_line(table, b"reaches ", register.reaches() as u64),
-        2 => put_value_line(table, value_of_few(register)),
-        3 => put_number_line(table, b"rounds ", rounds),
-        4 => put_side_line(table, marks),
-        _ => put_flow(register, line - 5, table),
+        0 => number_text("points ", register.points()),
+        1 => number_text("reaches ", register.reaches()),
+        2 => number_text("value ", few.value()),
+        3 => number_text("rounds ", rounds),
+        4 => side_text(marks),
+        _ => reach_text(register, line - 5),
     }
 }
 
-// The value of a register that has no more reaches than it may have.
-fn value_of_few<R: Register>(register: &R) -> i64
-    requires { length (R.scheme register.now).reaches ≤ most_reaches }
-    ensures { result ≡ value (R.scheme register.now) }
-{
-    value_unasked(register).unwrap_or(0)
-}
-
-// The line of a reach, or nothing where there is no such reach.
-fn put_flow<R: Register>(register: &R, reach: usize, table: &mut [u8]) -> usize
-    requires { length table.old ≡ 4096 }
-    ensures { Lays 0 (flow_told reach (flow_at (R.scheme register.now) reach))
-        table.old table.new result }
+// The line of a reach, or no text where there is no such reach.
+fn reach_text<R: Register>(register: &R, reach: usize) -> Line
+    ensures { result.bytes ≡ flow_told reach (flow_at (R.scheme register.now) reach) }
 {
     match register.flow(reach) {
-        Some(flow) => put_flow_line(table, reach as u64, u64::from(flow)),
-        None => 0,
+        Some(flow) => flow_text(reach, flow),
+        None => Line::new(),
     }
 }

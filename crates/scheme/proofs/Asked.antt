@@ -5,11 +5,13 @@ use Rattle.std.specs.List.{AllByRecursion}
 use Rattle.std.proofs.ByRecursion.{All-weaker}
 use Rattle.std.proofs.lemmas.Bool.{false≢true, leb-true, le-leb, cases_eq, eq-eqb, or_left, or_right}
 use Rattle.std.proofs.lemmas.Bool.Decides.{nat_tests as tells}
+use Rattle.scheme.specs.declared.faults.BookFault.{BookFault}
 use Rattle.scheme.specs.declared.faults.Refusal.{Refusal}
 use Rattle.scheme.specs.declared.rows.Reach.{Reach}
+use Rattle.scheme.specs.Bounds.{most_points, most_reaches}
 use Rattle.scheme.specs.Scheme.{Scheme}
 use Rattle.scheme.specs.Flow.{Lawful, inflow, outflow}
-use Rattle.scheme.specs.Refusals.{refusal_of}
+use Rattle.scheme.specs.Refusals.{book_refusal, refusal_of}
 use Rattle.scheme.specs.Questions.{Question, or_else, first_no, shaped, ask_shape, joins, ask_ends, carries, ask_flows, steady, ask_balance, form_questions, book_questions, Joined, WellFormed}
 use Rattle.scheme.proofs.Searches.{some≢none, all_pass, none_fails, points_pass, no_point_fails}
 
@@ -65,8 +67,8 @@ means_like q there back means = (λ e. there (means.0 e), λ h. means.1 (back h)
 module _ (s : Scheme) where
   pub record Shaped : Type 0 where
     pub some_points : 2 ≤ s.points
-    pub few_points : s.points ≤ 512
-    pub few_reaches : length s.reaches ≤ 8192
+    pub few_points : s.points ≤ most_points
+    pub few_reaches : length s.reaches ≤ most_reaches
     pub inlet_point : s.inlet < s.points
     pub outlet_point : s.outlet < s.points
     pub apart : s.inlet ≢ s.outlet
@@ -165,3 +167,13 @@ module _ (s : Scheme) where
       (λ h. (well_formed (h.0, h.1.0), record { within = h.1.1.0; balanced = h.1.1.1.0 }))
       (λ h. let w = form_parts h.0 in (w.0, (w.1, (h.1.within, (h.1.balanced, tt)))))
       (or_means _ _ shape_means (or_means _ _ ends_mean (or_means _ _ flows_mean (or_means _ _ balance_means yes_means))))
+
+  -- what an answer says of the register, from the refusal that it tells
+  pub form_law :
+      (r : Result (Unit {0}) BookFault) → refusal_of book_refusal r ≡ first_no (form_questions s) → Decides (is_ok r) (WellFormed s)
+  form_law r told = accepted_means book_refusal r _ told form_means
+
+  pub book_law :
+      (r : Result (Unit {0}) BookFault) → refusal_of book_refusal r ≡ first_no (book_questions s)
+      → Decides (is_ok r) (WellFormed s × Lawful s)
+  book_law r told = accepted_means book_refusal r _ told book_means

@@ -1,8 +1,7 @@
-pub mod Finds
 pub mod Searches
 pub mod Writes
+pub mod Amounts
 pub mod Asked
-pub mod Totals
 pub mod Sides
 pub mod SumLaws
 pub mod Signs

@@ -9,3 +9,4 @@ pub mod Tables
 pub mod Words
 pub mod Crossings
 pub mod SideLaws
+pub mod Sums

@@ -5,6 +5,7 @@ use Rattle.std.specs.List.{AllByRecursion}
 use Rattle.scheme.specs.declared.faults.Layer.TheVariants.{Book}
 use Rattle.scheme.specs.declared.faults.Refusal.{Refusal}
 use Rattle.scheme.specs.declared.rows.Reach.{Reach}
+use Rattle.scheme.specs.Bounds.{greatest_limit, most_points, most_reaches}
 use Rattle.scheme.specs.Scheme.{Scheme}
 use Rattle.scheme.specs.Flow.{inflow, outflow}
 use Rattle.scheme.specs.Refusals.{refused}
@@ -34,7 +35,7 @@ first_point p v (suc n) = cond (p v) (first_point p (v + 1) n) (Some v)
 -- Is n from 2 to 512, are there at most 8,192 reaches, and are inlet and outlet two different points?
 abbrev pub shaped : Scheme → Bool
 shaped s =
-    nat_le 2 s.points && nat_le s.points 512 && nat_le (length s.reaches) 8192
+    nat_le 2 s.points && nat_le s.points most_points && nat_le (length s.reaches) most_reaches
     && nat_lt s.inlet s.points && nat_lt s.outlet s.points && not (s.inlet == s.outlet)
 
 abbrev pub ask_shape : Scheme → Question
@@ -43,7 +44,7 @@ ask_shape s = cond (shaped s) None (Some (refused Book 6 0))
 -- Are tail and head two different points, and is the limit at most 1,000,000?
 abbrev pub joins : Scheme → Reach → Bool
 joins s r =
-    nat_lt r.tail s.points && nat_lt r.head s.points && not (r.tail == r.head) && nat_le r.limit 1000000
+    nat_lt r.tail s.points && nat_lt r.head s.points && not (r.tail == r.head) && nat_le r.limit greatest_limit
 
 abbrev pub ask_ends : Scheme → Question
 ask_ends s = option_map (refused Book 7) (first_fail (joins s) 0 s.reaches)
@@ -78,12 +79,12 @@ pub record Joined (s : Scheme) (r : Reach) : Type 0 where
   pub tail_point : r.tail < s.points
   pub head_point : r.head < s.points
   pub apart : r.tail ≢ r.head
-  pub bounded : r.limit ≤ 1000000
+  pub bounded : r.limit ≤ greatest_limit
 
 pub record WellFormed (s : Scheme) : Type 0 where
   pub some_points : 2 ≤ s.points
-  pub few_points : s.points ≤ 512
-  pub few_reaches : length s.reaches ≤ 8192
+  pub few_points : s.points ≤ most_points
+  pub few_reaches : length s.reaches ≤ most_reaches
   pub inlet_point : s.inlet < s.points
   pub outlet_point : s.outlet < s.points
   pub apart : s.inlet ≢ s.outlet

@@ -29,12 +29,14 @@ pub enum FileFault {
     BadRows(usize),
 }
 
-impl FileFault {
-    pub fn refusal(self) -> Refusal
-        ensures told { result ≡ file_refusal self }
-        ensures alone { (other : FileFault) → file_refusal other ≡ result → other ≡ self }
+impl From<FileFault> for Refusal {
+    ghost from_gives = { λ fault r. r ≡ file_refusal fault };
+
+    fn from(fault: FileFault) -> Refusal
+        ensures told { result ≡ file_refusal fault }
+        ensures alone { (other : FileFault) → file_refusal other ≡ result → other ≡ fault }
     {
-        let (number, place) = match self {
+        let (number, place) = match fault {
             FileFault::TooLong => (1, 0),
             FileFault::CutShort(at) => (2, at),
             FileFault::UnknownKind(at) => (3, at),
@@ -60,13 +62,15 @@ pub enum BookFault {
     NoReach(usize),
 }
 
-impl BookFault {
-    pub fn refusal(self) -> Refusal
-        ensures told { result ≡ book_refusal self }
-        ensures alone { (other : BookFault) → book_refusal other ≡ result → other ≡ self }
+impl From<BookFault> for Refusal {
+    ghost from_gives = { λ fault r. r ≡ book_refusal fault };
+
+    fn from(fault: BookFault) -> Refusal
+        ensures told { result ≡ book_refusal fault }
+        ensures alone { (other : BookFault) → book_refusal other ≡ result → other ≡ fault }
     {
-        let (number, place) = match self {
-            BookFault::InFile(fault) => return fault.refusal(),
+        let (number, place) = match fault {
+            BookFault::InFile(fault) => return Refusal::from(fault),
             BookFault::Shape => (6, 0),
             BookFault::Ends(reach) => (7, reach),
             BookFault::Over(reach) => (8, reach),
@@ -89,12 +93,14 @@ pub enum PickFault {
     KeyTooGreat(u16),
 }
 
-impl PickFault {
-    pub fn refusal(self) -> Refusal
-        ensures told { result ≡ pick_refusal self }
-        ensures alone { (other : PickFault) → pick_refusal other ≡ result → other ≡ self }
+impl From<PickFault> for Refusal {
+    ghost from_gives = { λ fault r. r ≡ pick_refusal fault };
+
+    fn from(fault: PickFault) -> Refusal
+        ensures told { result ≡ pick_refusal fault }
+        ensures alone { (other : PickFault) → pick_refusal other ≡ result → other ≡ fault }
     {
-        let (number, place) = match self {
+        let (number, place) = match fault {
             PickFault::TooSmall => (10, 0),
             PickFault::Inside(point) => (17, usize::from(point)),
             PickFault::KeyTooGreat(point) => (18, usize::from(point)),
@@ -121,14 +127,16 @@ pub enum CallFault {
     NotTight,
 }
 
-impl CallFault {
-    pub fn refusal(self) -> Refusal
-        ensures told { result ≡ call_refusal self }
-        ensures alone { (other : CallFault) → call_refusal other ≡ result → other ≡ self }
+impl From<CallFault> for Refusal {
+    ghost from_gives = { λ fault r. r ≡ call_refusal fault };
+
+    fn from(fault: CallFault) -> Refusal
+        ensures told { result ≡ call_refusal fault }
+        ensures alone { (other : CallFault) → call_refusal other ≡ result → other ≡ fault }
     {
-        let number = match self {
-            CallFault::InBook(fault) => return fault.refusal(),
-            CallFault::InPick(fault) => return fault.refusal(),
+        let number = match fault {
+            CallFault::InBook(fault) => return Refusal::from(fault),
+            CallFault::InPick(fault) => return Refusal::from(fault),
             CallFault::ShortTable => 10,
             CallFault::NoSuchReach => 11,
             CallFault::LimitTooGreat => 12,

@@ -3,11 +3,11 @@
 
 pub mod clearing;
 pub mod faults;
+pub mod few;
 pub mod questions;
 pub mod registers;
 pub mod review;
 pub mod rows;
-mod sums;
 pub mod tables;
 #[cfg(test)]
 mod tests;
@@ -15,8 +15,9 @@ pub mod words;
 
 pub use clearing::clear_flows;
 pub use faults::{BookFault, CallFault, FileFault, Layer, PickFault, Refusal};
+pub use few::Few;
 pub use questions::{ask_book, ask_form, is_shaped};
 pub use registers::{Book, Register};
 pub use review::{capacity_unasked, check, is_side_of_shaped, value_of, value_unasked};
-pub use rows::Reach;
+pub use rows::{Reach, reach_of};
 pub use tables::Table;

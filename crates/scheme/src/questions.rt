@@ -1,13 +1,14 @@
 // The questions put to a register. The first answered no is the refusal.
-ghost use Rattle.std.specs.Prelude.{◌≡◌, ◌≤◌, not, ◌&&◌, ◌||◌, length, is_ok, Decides, ◌==◌, nat_le, nat_lt, slice_index_or};
-ghost use Rattle.scheme.specs.Scheme.{no_reach};
+ghost use Rattle.std.specs.Prelude.{◌≡◌, is_ok, Decides};
+ghost use Rattle.std.specs.List.{slice_get};
+ghost use Rattle.std.specs.Option.{option_map};
 ghost use Rattle.scheme.specs.Flow.{Lawful};
 ghost use Rattle.scheme.specs.Refusals.{book_refusal, refusal_of};
 ghost use Rattle.scheme.specs.Questions.{first_no, form_questions, book_questions, shaped, joins, carries, steady, first_fail, first_point, WellFormed};
 
 use crate::faults::BookFault;
+use crate::few::{Few, gain_of};
 use crate::registers::Register;
-use crate::sums::add_if;
 
 pub const MOST_POINTS: u16 = 512;
 
@@ -38,7 +39,7 @@ pub fn ask_book<R: Register>(register: &R) -> Result<(), BookFault>
     if let Some(reach) = first_over(register) {
         return Err(BookFault::Over(reach));
     }
-    if let Some(point) = first_unbalanced(register) {
+    if let Some(point) = first_unbalanced(&Few { register }) {
         return Err(BookFault::Unbalanced(point));
     }
     Ok(())
@@ -59,82 +60,55 @@ pub fn is_shaped<R: Register>(register: &R) -> bool
         && inlet != outlet
 }
 
-// Are the ends two different points, under a limit that is allowed?
-fn ends_fit(points: u16, tail: u16, head: u16, limit: u32) -> bool
-    ensures { result ≡ (nat_lt tail points && nat_lt head points && not (tail == head) && nat_le limit 1000000) }
-{
-    tail < points && head < points && tail != head && limit <= GREATEST_LIMIT
-}
-
-fn reach_joins<R: Register>(register: &R, reach: usize) -> bool
-    ensures { result ≡ joins (R.scheme register.now) (slice_index_or (R.scheme register.now).reaches reach no_reach) }
-{
-    // an absent field stands for 0: the callers ask only of reaches that are in the list
-    let tail = register.tail(reach).unwrap_or(0);
-    let head = register.head(reach).unwrap_or(0);
-    let limit = register.limit(reach).unwrap_or(0);
-    ends_fit(register.points(), tail, head, limit)
-}
-
+// The first reach that does not join two points as it should.
 fn first_loose<R: Register>(register: &R) -> Option<usize>
     ensures { result ≡ first_fail (joins (R.scheme register.now)) 0 (R.scheme register.now).reaches }
 {
-    let count = register.reaches();
-    for reach in 0..count {
-        if !reach_joins(register, reach) {
-            return Some(reach);
-        }
-    }
-    None
+    (0..register.reaches()).find(|reach| reach_joins(register, *reach) == Some(false))
 }
 
-fn reach_carries<R: Register>(register: &R, reach: usize) -> bool
-    ensures { result ≡ carries (slice_index_or (R.scheme register.now).reaches reach no_reach) }
+// Are the ends of a reach two different points, and is its limit one that is allowed?
+fn reach_joins<R: Register>(register: &R, reach: usize) -> Option<bool>
+    ensures { result ≡ option_map (joins (R.scheme register.now)) (slice_get (R.scheme register.now).reaches reach) }
 {
-    register.flow(reach).unwrap_or(0) <= register.limit(reach).unwrap_or(0)
+    let points = register.points();
+    let tail = register.tail(reach)?;
+    let head = register.head(reach)?;
+    let limit = register.limit(reach)?;
+    Some(tail < points && head < points && tail != head && limit <= GREATEST_LIMIT)
 }
 
+// The first reach that carries more than its limit.
 fn first_over<R: Register>(register: &R) -> Option<usize>
     ensures { result ≡ first_fail carries 0 (R.scheme register.now).reaches }
 {
-    let count = register.reaches();
-    for reach in 0..count {
-        if !reach_carries(register, reach) {
-            return Some(reach);
-        }
-    }
-    None
+    (0..register.reaches()).find(|reach| reach_carries(register, *reach) == Some(false))
 }
 
-// May this point stand: is it inlet or outlet, or does it balance?
-fn point_stands(point: u16, inlet: u16, outlet: u16, inflow: u64, outflow: u64) -> bool
-    ensures { result ≡ (point == inlet || (point == outlet || inflow == outflow)) }
+fn reach_carries<R: Register>(register: &R, reach: usize) -> Option<bool>
+    ensures { result ≡ option_map carries (slice_get (R.scheme register.now).reaches reach) }
 {
-    point == inlet || point == outlet || inflow == outflow
+    Some(register.flow(reach)? <= register.limit(reach)?)
 }
 
 // The first inner point whose inflow is not its outflow.
-fn first_unbalanced<R: Register>(register: &R) -> Option<u16>
-    requires { length (R.scheme register.now).reaches ≤ 8192 }
-    ensures { result ≡ first_point (steady (R.scheme register.now)) 0 (R.scheme register.now).points }
+fn first_unbalanced<R: Register>(few: &Few<'_, R>) -> Option<u16>
+    ensures { result ≡ first_point (steady (R.scheme few.now.register.now)) 0 (R.scheme few.now.register.now).points }
 {
+    let register = few.register;
     let points = register.points();
     let count = register.reaches();
     let inlet = register.inlet();
     let outlet = register.outlet();
     let mut found = None;
+    // both loops stand here, so that their label leaves them at the first such point
     'points: for point in 0..points {
-        let mut inflow = 0;
-        let mut outflow = 0;
+        let mut gain = 0;
         for reach in 0..count {
-            // every reach below `count` is in the list, so no field is absent
-            let tail = register.tail(reach).unwrap_or(0);
-            let head = register.head(reach).unwrap_or(0);
-            let flow = register.flow(reach).unwrap_or(0);
-            inflow = add_if(inflow, head == point, flow);
-            outflow = add_if(outflow, tail == point, flow);
+            // every reach below `count` is in the list
+            gain += gain_of(register, reach, point).unwrap_or(0);
         }
-        if !point_stands(point, inlet, outlet, inflow, outflow) {
+        if point != inlet && point != outlet && gain != 0 {
             found = Some(point);
             break 'points;
         }

@@ -1,16 +1,20 @@
 // The review of a published side: is the flow lawful, and does the side prove it greatest?
-ghost use Rattle.std.specs.Prelude.{◌≡◌, ◌<◌, ◌≤◌, true, cond, not, ◌&&◌, length, is_ok, IfOk, Some, None, Decides, nat_le};
+ghost use Rattle.std.specs.Prelude.{◌≡◌, ◌<◌, true, cond, ◌&&◌, length, is_ok, IfOk, IfSome, Some, None, Decides, nat_le};
+ghost use Rattle.std.specs.List.{slice_get};
+ghost use Rattle.std.specs.Option.{option_map};
 ghost use Rattle.scheme.specs.Bounds.{most_reaches};
 ghost use Rattle.scheme.specs.Flow.{value, capacity};
-ghost use Rattle.scheme.specs.Marks.{marked, sided, fitting, tight, Pinch, ReviewDecides, check_questions};
+ghost use Rattle.scheme.specs.Marks.{marked, sided, tight, Pinch, ReviewDecides, check_questions};
 ghost use Rattle.scheme.specs.Questions.{first_no, book_questions, shaped};
 ghost use Rattle.scheme.specs.SideLaws.{Meet};
 ghost use Rattle.scheme.specs.Refusals.{call_refusal, refusal_of};
+ghost use Rattle.scheme.specs.Sums.{leaving, short, IsSmall, IsWithin};
 
 use crate::faults::CallFault;
-use crate::questions::{MOST_REACHES, ask_book, is_shaped};
+use crate::few::{Few, gain};
+use crate::questions::{ask_book, is_shaped};
 use crate::registers::Register;
-use crate::sums::add_if;
+use crate::rows::reach_of;
 
 // The value of the flow, signed.
 pub fn value_of<R: Register>(register: &R) -> Result<i64, CallFault>
@@ -18,7 +22,7 @@ pub fn value_of<R: Register>(register: &R) -> Result<i64, CallFault>
     ensures value { IfOk result (λ z. z ≡ value (R.scheme register.now)) }
 {
     ask_book(register)?;
-    Ok(net_outflow(register))
+    Ok(Few { register }.value())
 }
 
 // The value of the flow with no question put first; nothing where there are more reaches than a well-formed register
@@ -27,10 +31,7 @@ pub fn value_unasked<R: Register>(register: &R) -> Option<i64>
     ensures { result ≡ cond (nat_le (length (R.scheme register.now).reaches) most_reaches)
         (Some (value (R.scheme register.now))) None }
 {
-    if register.reaches() > MOST_REACHES {
-        return None;
-    }
-    Some(net_outflow(register))
+    Some(Few::of(register)?.value())
 }
 
 // The capacity of the points that are marked with 1, whatever the marks; nothing where there are more reaches than a
@@ -39,10 +40,7 @@ pub fn capacity_unasked<R: Register>(register: &R, marks: &[u8]) -> Option<u64>
     ensures { result ≡ cond (nat_le (length (R.scheme register.now).reaches) most_reaches)
         (Some (capacity (R.scheme register.now) (marked marks.now))) None }
 {
-    if register.reaches() > MOST_REACHES {
-        return None;
-    }
-    Some(marked_capacity(register, marks))
+    Some(Few::of(register)?.capacity(marks))
 }
 
 // Reviews a list of marks, one for each point: 1 for a point of the side, 0 for any other.
@@ -57,7 +55,7 @@ pub fn check<R: Register>(register: &R, marks: &[u8]) -> Result<(), CallFault>
     if !is_side(register, marks) {
         return Err(CallFault::NoSide);
     }
-    if !is_tight(register, marks) {
+    if !(Few { register }).is_tight(marks) {
         return Err(CallFault::NotTight);
     }
     Ok(())
@@ -69,32 +67,6 @@ pub fn is_side_of_shaped<R: Register>(register: &R, marks: &[u8]) -> bool
         && sided (R.scheme register.now) marks.now) }
 {
     is_shaped(register) && is_side(register, marks)
-}
-
-// What leaves the inlet less what enters it.
-fn net_outflow<R: Register>(register: &R) -> i64
-    requires { length (R.scheme register.now).reaches ≤ most_reaches }
-    ensures { result ≡ value (R.scheme register.now) }
-{
-    let inlet = register.inlet();
-    let count = register.reaches();
-    let mut outflow = 0;
-    let mut inflow = 0;
-    for reach in 0..count {
-        let tail = register.tail(reach).unwrap_or(0);
-        let head = register.head(reach).unwrap_or(0);
-        let flow = register.flow(reach).unwrap_or(0);
-        outflow = add_if(outflow, tail == inlet, flow);
-        inflow = add_if(inflow, head == inlet, flow);
-    }
-    outflow as i64 - inflow as i64
-}
-
-// May this mark stand at this point: 1 at the inlet, 0 at the outlet, and either at any other?
-fn mark_fits(at_inlet: bool, at_outlet: bool, mark: u8) -> bool
-    ensures { result ≡ fitting at_inlet at_outlet mark }
-{
-    mark <= 1 && (!at_inlet || mark == 1) && (!at_outlet || mark == 0)
 }
 
 // Is there a mark for each point, and does each fit? It stops at the first that does not.
@@ -109,60 +81,68 @@ fn is_side<R: Register>(register: &R, marks: &[u8]) -> bool
         return false;
     }
     for (point, mark) in marks.iter().enumerate() {
-        if !mark_fits(point == inlet, point == outlet, *mark) {
+        if *mark > 1 || (point == inlet && *mark == 0) || (point == outlet && *mark == 1) {
             return false;
         }
     }
     true
 }
 
-// The limits of the reaches that leave the marked points, together.
-fn marked_capacity<R: Register>(register: &R, marks: &[u8]) -> u64
-    requires { length (R.scheme register.now).reaches ≤ most_reaches }
-    ensures { result ≡ capacity (R.scheme register.now) (marked marks.now) }
-{
-    let count = register.reaches();
-    let mut capacity = 0;
-    for reach in 0..count {
-        let tail = register.tail(reach).unwrap_or(0);
-        let head = register.head(reach).unwrap_or(0);
-        let limit = register.limit(reach).unwrap_or(0);
-        capacity = add_if(capacity, leaves_marked(marks, tail, head), limit);
+impl<R: Register> Few<'_, R> {
+    // The limits of the reaches that leave the points that are marked with 1, together.
+    pub fn capacity(&self, marks: &[u8]) -> u64
+        ensures { result ≡ capacity (R.scheme self.now.register.now) (marked marks.now) }
+    {
+        let register = self.register;
+        self.sum(|reach| leaving_of(register, reach, marks)) as u64
     }
-    capacity
+
+    // Is the value of the flow the capacity of the marked points?
+    fn is_tight(&self, marks: &[u8]) -> bool
+        ensures { result ≡ tight (R.scheme self.now.register.now) marks.now }
+    {
+        let register = self.register;
+        let inlet = register.inlet();
+        self.sum(|reach| short_of(register, reach, inlet, marks)) == 0
+    }
 }
 
-// Does a reach between these points leave the marked ones?
-fn leaves_marked(marks: &[u8], tail: u16, head: u16) -> bool
-    ensures { result ≡ (marked marks.now tail && not (marked marks.now head)) }
+// What a reach adds to the capacity of the marked points.
+fn leaving_of<R: Register>(register: &R, reach: usize, marks: &[u8]) -> Option<i64>
+    ensures leaving { result
+        ≡ option_map (leaving (marked marks.now)) (slice_get (R.scheme register.now).reaches reach) }
+    ensures small { IfSome result IsSmall }
 {
-    is_marked(marks, tail) & !is_marked(marks, head)
+    let tail = register.tail(reach)?;
+    let head = register.head(reach)?;
+    Some(leaving(marks, tail, head, register.limit(reach)?))
+}
+
+// What a reach adds to the value of the flow less what it adds to the capacity.
+fn short_of<R: Register>(register: &R, reach: usize, inlet: u16, marks: &[u8]) -> Option<i64>
+    ensures short { result
+        ≡ option_map (short inlet (marked marks.now)) (slice_get (R.scheme register.now).reaches reach) }
+    ensures small { IfSome result IsSmall }
+{
+    let row = reach_of(register, reach)?;
+    Some(gain(inlet, row.tail, row.head, row.flow) - leaving(marks, row.tail, row.head, row.limit))
+}
+
+// The limit of a reach between these points, if it leaves the marked ones.
+fn leaving(marks: &[u8], tail: u16, head: u16, limit: u32) -> i64
+    ensures leaving { result
+        ≡ leaving (marked marks.now) (record { tail = tail; head = head; limit = limit; flow = 0 }) }
+    ensures small { IsWithin u32.MAX result }
+{
+    if is_marked(marks, tail) && !is_marked(marks, head) {
+        i64::from(limit)
+    } else {
+        0
+    }
 }
 
 fn is_marked(marks: &[u8], point: u16) -> bool
     ensures { result ≡ marked marks.now point }
 {
-    marks.get(usize::from(point)).copied().unwrap_or(0) == 1
-}
-
-// Is the value of the flow the side's capacity?
-fn is_tight<R: Register>(register: &R, marks: &[u8]) -> bool
-    requires { length (R.scheme register.now).reaches ≤ most_reaches }
-    ensures { result ≡ tight (R.scheme register.now) marks.now }
-{
-    let inlet = register.inlet();
-    let count = register.reaches();
-    let mut outflow = 0;
-    let mut inflow = 0;
-    let mut capacity = 0;
-    for reach in 0..count {
-        let tail = register.tail(reach).unwrap_or(0);
-        let head = register.head(reach).unwrap_or(0);
-        let limit = register.limit(reach).unwrap_or(0);
-        let flow = register.flow(reach).unwrap_or(0);
-        outflow = add_if(outflow, tail == inlet, flow);
-        inflow = add_if(inflow, head == inlet, flow);
-        capacity = add_if(capacity, leaves_marked(marks, tail, head), limit);
-    }
-    outflow == inflow + capacity
+    marks.get(usize::from(point)) == Some(&1)
 }

@@ -67,40 +67,32 @@ impl Register for Table {
     }
 
     fn tail(&self, reach: usize) -> Option<u16> {
-        let row = self.row(reach)?;
-        Some(row.tail)
+        Some(self.row(reach)?.tail)
     }
 
     fn head(&self, reach: usize) -> Option<u16> {
-        let row = self.row(reach)?;
-        Some(row.head)
+        Some(self.row(reach)?.head)
     }
 
     fn limit(&self, reach: usize) -> Option<u32> {
-        let row = self.row(reach)?;
-        Some(row.limit)
+        Some(self.row(reach)?.limit)
     }
 
     fn flow(&self, reach: usize) -> Option<u32> {
-        let row = self.row(reach)?;
-        Some(row.flow)
+        Some(self.row(reach)?.flow)
     }
 }
 
 impl Book for Table {
     fn set_limit(&mut self, reach: usize, limit: u32) -> Result<(), BookFault> {
-        if reach >= self.rows.len() {
-            return Err(BookFault::NoReach(reach));
-        }
-        self.rows[reach].limit = limit;
+        let row = self.rows.get_mut(reach).ok_or(BookFault::NoReach(reach))?;
+        row.limit = limit;
         Ok(())
     }
 
     fn set_flow(&mut self, reach: usize, flow: u32) -> Result<(), BookFault> {
-        if reach >= self.rows.len() {
-            return Err(BookFault::NoReach(reach));
-        }
-        self.rows[reach].flow = flow;
+        let row = self.rows.get_mut(reach).ok_or(BookFault::NoReach(reach))?;
+        row.flow = flow;
         Ok(())
     }
 }

@@ -12,18 +12,11 @@ fn reach(tail: u16, head: u16, limit: u32, flow: u32) -> Reach {
     }
 }
 
-fn told(answer: Result<(), CallFault>) -> Option<Refusal> {
-    match answer {
-        Ok(()) => None,
-        Err(fault) => Some(fault.refusal()),
-    }
-}
-
-fn asked(register: &Table) -> Option<Refusal> {
-    match ask_book(register) {
-        Ok(()) => None,
-        Err(fault) => Some(fault.refusal()),
-    }
+fn told<F: Drop>(answer: Result<(), F>) -> Option<Refusal>
+where
+    Refusal: From<F>,
+{
+    answer.err().map(Refusal::from)
 }
 
 fn refused(layer: Layer, number: u16, place: usize) -> Option<Refusal> {
@@ -104,7 +97,10 @@ fn shapes_at_their_bounds(rt: HostRuntime) -> Result<(), Fail> {
     ];
     for (points, inlet, outlet, count, answer) in cases {
         let rows = vec![in heap; reach(0, 1, 1, 0); count]?;
-        assert_eq!(rt; asked(&Table::new(points, inlet, outlet, rows)), answer);
+        assert_eq!(rt;
+            told(ask_book(&Table::new(points, inlet, outlet, rows))),
+            answer
+        );
     }
     Ok(())
 }
@@ -140,7 +136,7 @@ fn the_first_fault_is_told(rt: HostRuntime) -> Result<(), Fail> {
         ),
     ];
     for (rows, answer) in cases {
-        assert_eq!(rt; asked(&table(heap, 4, &rows)?), answer);
+        assert_eq!(rt; told(ask_book(&table(heap, 4, &rows)?)), answer);
     }
     Ok(())
 }
@@ -168,7 +164,7 @@ fn writes(rt: HostRuntime) -> Result<(), Fail> {
 fn a_refusal_is_one_line(rt: HostRuntime) -> Result<(), Fail> {
     let fault = CallFault::from(BookFault::from(FileFault::CutShort(12)));
     assert_eq!(rt;
-        fault.refusal().line(rt.alloc())?.as_str(),
+        Refusal::from(fault).line(rt.alloc())?.as_str(),
         "refused file 2 12"
     );
     Ok(())

@@ -1,9 +1,9 @@
 -- A byte string that a walk goes through to its end is cut by it into records, and is laid out from those.
-use Rattle.std.proofs.Common.{◌≡◌, ℕ, zero, suc, ◌+◌, ◌*◌, ◌/◌, ◌%◌, ◌<◌, ◌≤◌, Bool, true, false, eqb, leb, List, [], ◌∷◌, ◌++◌, map, length, get_or, take, drop, Some, None, Ok, sym, refl, ap, ◌∙◌, subst, ⊎_elim, mod-eq_of_lt, arith}
-use native.Mathlib.Nat.{div-div-eq-div-mul}
+use Rattle.std.proofs.Common.{◌≡◌, ℕ, zero, suc, ◌+◌, ◌*◌, ◌/◌, ◌%◌, ◌<◌, ◌≤◌, Bool, true, false, eqb, leb, List, [], ◌∷◌, ◌++◌, map, length, get_or, take, drop, Some, None, Ok, sym, refl, ap, ◌∙◌, subst, ⊎_elim, arith}
 use Rattle.std.specs.List.{range_with_len, flat_map, AllByRecursion}
-use Rattle.std.proofs.lemmas.Nat.{div-mul-add, mod-mul-add}
+use Rattle.std.proofs.lemmas.Nat.{le_bytes_2, le_bytes_4}
 use Rattle.std.proofs.lemmas.List.{append_assoc, drop_all, drop-drop, drop_more, length-drop, length-take-le, take-append-drop}
+use Rattle.std.proofs.lemmas.Grind.{flat_map-append}
 use Rattle.std.proofs.lemmas.Bool.{cases_Bool, cases_lt, cond-true, eqb-true, eqb-false, leb-true, le-leb, ne_eqb}
 use Rattle.std.proofs.lemmas.Bool.Decides.{nat_tests}
 use Rattle.scheme.specs.declared.rows.Reach.{Reach}
@@ -12,39 +12,21 @@ use Rattle.scheme_file.specs.Layout.{FileRecord, head, rows, note, kind_of, body
 use Rattle.scheme_file.specs.Numbers.{two, four, two_at, four_at}
 use Rattle.scheme_file.specs.Reading.{Bytes}
 use Rattle.scheme_file.specs.Rows.{row_at, row_place, rows_at}
-use Rattle.scheme_file.proofs.Laid.{notes_bytes, length_rows_bytes, joined_append}
+use Rattle.scheme_file.proofs.Laid.{notes_bytes, length_rows_bytes}
 use Rattle.scheme_file.proofs.RowLists.{length_rows}
-use Rattle.scheme_file.proofs.Stays.{walks_on, no_second}
-use Rattle.scheme_file.proofs.Walks.{taken, walk_on, walk_all}
+use Rattle.scheme_file.proofs.Walks.{no_second, taken, walk_on, walk_all, walks_on}
 
 -- bytes are the digits of the number that they are read as
 two_forth : (a b : ℕ) → a < 256 → b < 256 → two (a + b * 256) ≡ a ∷ b ∷ []
-two_forth a b la lb =
-    let n : a + b * 256 ≡ b * 256 + a = omega arith in
-    let low : (a + b * 256) % 256 ≡ a = ap (λ m. m % 256) n ∙ mod-mul-add b 256 a la in
-    let high : (a + b * 256) / 256 % 256 ≡ b =
-    ap (λ m. m / 256 % 256) n ∙ ap (λ m. m % 256) (div-mul-add b 256 a la) ∙ mod-eq_of_lt lb in
-    rw (low, high) refl
+two_forth a b la lb = le_bytes_2 (a ∷ b ∷ []) _ refl (λ i. elim i as (λ k. get_or (a ∷ b ∷ []) k 0 < 256) [ zero ↦ la | suc zero ↦ lb | suc (suc k) ↦ omega arith ]) refl
 
 four_forth :
     (a b c d : ℕ) → a < 256 → b < 256 → c < 256 → d < 256
     → four (a + b * 256 + c * 65536 + d * 16777216) ≡ a ∷ b ∷ c ∷ d ∷ []
 four_forth a b c d la lb lc ld =
-    let n = a + b * 256 + c * 65536 + d * 16777216 in
-    let e : n ≡ (b + c * 256 + d * 65536) * 256 + a = omega arith in
-    let e1 : n / 256 ≡ b + c * 256 + d * 65536 =
-    ap (λ m. m / 256) e ∙ div-mul-add (b + c * 256 + d * 65536) 256 a la in
-    let f1 : b + c * 256 + d * 65536 ≡ (c + d * 256) * 256 + b = omega arith in
-    let e2 : n / 65536 ≡ c + d * 256 =
-    sym (div-div-eq-div-mul n 256 256) ∙ ap (λ m. m / 256) (e1 ∙ f1) ∙ div-mul-add (c + d * 256) 256 b lb in
-    let f2 : c + d * 256 ≡ d * 256 + c = omega arith in
-    let e3 : n / 16777216 ≡ d =
-    sym (div-div-eq-div-mul n 65536 256) ∙ ap (λ m. m / 256) (e2 ∙ f2) ∙ div-mul-add d 256 c lc in
-    let d0 : n % 256 ≡ a = ap (λ m. m % 256) e ∙ mod-mul-add (b + c * 256 + d * 65536) 256 a la in
-    let d1 : n / 256 % 256 ≡ b = ap (λ m. m % 256) (e1 ∙ f1) ∙ mod-mul-add (c + d * 256) 256 b lb in
-    let d2 : n / 65536 % 256 ≡ c = ap (λ m. m % 256) (e2 ∙ f2) ∙ mod-mul-add d 256 c lc in
-    let d3 : n / 16777216 % 256 ≡ d = ap (λ m. m % 256) e3 ∙ mod-eq_of_lt ld in
-    rw (d0, d1, d2, d3) refl
+    le_bytes_4 (a ∷ b ∷ c ∷ d ∷ []) _ refl
+    (λ i. elim i as (λ k. get_or (a ∷ b ∷ c ∷ d ∷ []) k 0 < 256) [ zero ↦ la | suc zero ↦ lb | suc (suc zero) ↦ lc | suc (suc (suc zero)) ↦ ld | suc (suc (suc (suc k))) ↦ omega arith ])
+    refl
 
 module _ (bs : List ℕ) (bytes : Bytes bs) where
   one_here : (p e : ℕ) → e ≡ p + 1 → e ≤ length bs → drop p bs ≡ get_or bs p 0 ∷ drop e bs
@@ -268,7 +250,7 @@ contents bs bytes block found =
       record {
         laid =
             head_here bs bytes t.inside kind size
-            ∙ ap (λ l. record_bytes first ++ l) (rest.laid ∙ sym (joined_append record_bytes (map note rest.before) (rows rest.reaches ∷ map note rest.after)));
+            ∙ ap (λ l. record_bytes first ++ l) (rest.laid ∙ sym (flat_map-append record_bytes (map note rest.before) (rows rest.reaches ∷ map note rest.after)));
         short = short;
         few = rest.few;
         points_fit = omega (arith, bytes 6, bytes 7);

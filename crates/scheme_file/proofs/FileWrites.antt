@@ -1,21 +1,20 @@
 -- What a number written into a row of a file leaves.
-use Rattle.std.proofs.Common.{◌≡◌, ℕ, ◌+◌, ◌*◌, ◌^◌, ◌<◌, ◌≤◌, cond, ◌&&◌, leb, ◌⊎◌, List, [], ◌∷◌, length, get_or, sym, refl, ap, ◌∙◌, subst, inl, ⊎_elim, arith}
+use Rattle.std.proofs.Common.{◌≡◌, ℕ, ◌+◌, ◌*◌, ◌^◌, ◌<◌, ◌≤◌, cond, ltb, List, length, sym, refl, ap, ◌∙◌, subst, ⊎_elim, arith}
 use Rattle.std.proofs.lemmas.Bool.{cases_lt, cond_below, cond_above}
 use Rattle.std.proofs.lemmas.Bool.Decides.{nat_tests}
-use Rattle.std.specs.Borrow.{GName}
-use Rattle.scheme.specs.Kept.{Kept}
-use Rattle.scheme.specs.Scheme.{Scheme, changed, over}
+use Rattle.scheme.specs.Scheme.{changed, over}
 use Rattle.scheme.proofs.Writes.{changed_past}
 use Rattle.scheme_file.specs.declared.files.SchemeFile.{SchemeFile}
-use Rattle.scheme_file.specs.Asked.{end_at, length_at, block_of_rows}
-use Rattle.scheme_file.specs.Files.{Accepted, besides, file_bytes, file_kept, file_scheme, held_in, held_rows, row_patched}
+use Rattle.scheme_file.specs.declared.reading.Found.{Found}
+use Rattle.scheme_file.specs.Files.{Accepted, FoundIn, besides, file_bytes, file_kept, file_scheme, found_scheme, held_in, held_of, row_patched}
 use Rattle.scheme_file.specs.Reading.{Bytes}
-use Rattle.scheme_file.specs.Rows.{row_place, scheme_at, patched}
+use Rattle.scheme_file.specs.Rows.{patched, row_place, scheme_at}
 use Rattle.scheme_file.proofs.Besides.{besides_stay}
-use Rattle.scheme_file.proofs.Fields.{file_reaches}
-use Rattle.scheme_file.proofs.Patches.{length_patched, patched_below, patched_above, patched_bytes}
+use Rattle.scheme_file.proofs.Meaning.{rows_of}
+use Rattle.scheme_file.proofs.Patches.{length_patched, patched_bytes}
+use Rattle.scheme_file.proofs.Relaid.{found_kept}
+use Rattle.scheme_file.proofs.RowLists.{length_rows}
 use Rattle.scheme_file.proofs.RowWrites.{Field, scheme_after}
-use Rattle.scheme_file.proofs.Stays.{row_block_same, length_same}
 
 -- where there are rows, they lie behind the head and in the bytes
 pub held_lie :
@@ -23,112 +22,76 @@ pub held_lie :
     → (12 ≤ rows) × (rows + 12 * held_in bs rows count ≤ length bs)
 held_lie bs rows count reach within = (grind (arith, nat_tests), grind (arith, nat_tests))
 
-held_most : (bs : List ℕ) (rows count : ℕ) → held_in bs rows count ≤ count
-held_most bs rows count = grind (arith, nat_tests)
+module _ (field : Field) (bs : List ℕ) (found : Found) (reach x : ℕ) where
+  -- the four bytes of the field, and the bytes with the number in them if there is such a reach
+  abbrev place : ℕ
+  place = row_place found.rows reach + field.offset
 
--- the meaning hangs on the bytes, the place and the count alone
-abbrev scheme_in : List ℕ → ℕ → ℕ → Scheme
-scheme_in bs rows count = scheme_at bs rows (held_in bs rows count)
+  abbrev put : List ℕ
+  put = cond (ltb reach (held_of bs found)) (patched bs place x) bs
 
--- what is kept hangs on them and on the loan
-abbrev kept_in : List ℕ → ℕ → ℕ → GName → Kept
-kept_in bs rows count loan =
-    record {
-      numbers = rows ∷ count ∷ length bs ∷ besides bs rows (held_in bs rows count);
-      loans = loan ∷ [];
-    }
+  holds : reach < held_of bs found → place + 4 ≤ length bs
+  holds within = omega (arith, field.small, (held_lie bs found.rows found.count reach within).1)
 
-kept_put :
-    (field : Field) (bs : List ℕ) (rows count reach x : ℕ) (loan : GName) → reach < held_in bs rows count
-    → kept_in (patched bs (row_place rows reach + field.offset) x) rows count loan ≡ kept_in bs rows count loan
-kept_put field bs rows count reach x loan within =
-    let lie = held_lie bs rows count reach within in
-    let put = patched bs (row_place rows reach + field.offset) x in
-    let level : length put ≡ length bs =
-    length_patched bs (row_place rows reach + field.offset) x (omega (arith, field.small, lie.1)) in
-    let held : held_in put rows count ≡ held_in bs rows count = rw level refl in
-    let rest : besides put rows (held_in put rows count) ≡ besides bs rows (held_in bs rows count) =
-    ap (besides put rows) held
-    ∙ besides_stay bs rows (held_in bs rows count) reach field.offset x within lie.1 field.past_ends field.small in
-    cc
-
-module _ (field : Field) (f g : SchemeFile) (reach x : ℕ) (fits : x < 2 ^ 32)
-    (bytes : file_bytes g ≡ row_patched f reach field.offset x) (rows : g.rows ≡ f.rows)
-    (count : g.count ≡ f.count) where
-  scheme_of : file_scheme g ≡ scheme_in (row_patched f reach field.offset x) f.rows f.count
-  scheme_of =
-      ap (λ bs. scheme_in bs g.rows g.count) bytes
-      ∙ ap (λ p. scheme_in (row_patched f reach field.offset x) p g.count) rows
-      ∙ ap (λ n. scheme_in (row_patched f reach field.offset x) f.rows n) count
-
-  pub file_after : file_scheme g ≡ over (file_scheme f) (changed (field.edit x) (file_scheme f).reaches reach)
-  file_after =
+  -- what holds with the number in them, and without where there is no such reach, holds of what a write leaves
+  put_by : (P : List ℕ → Type 0) → (reach < held_of bs found → P (patched bs place x)) → (held_of bs found ≤ reach → P bs) → P put
+  put_by P within past =
       ⊎_elim
+      (λ lt. subst P (cond_below reach (held_of bs found) (patched bs place x) bs lt) (within lt))
+      (λ le. subst P (cond_above reach (held_of bs found) _ bs bs le refl) (past le))
+      (cases_lt reach (held_of bs found))
+
+  length_put : length put ≡ length bs
+  length_put = put_by (λ b. length b ≡ length bs) (λ within. length_patched bs place x (holds within)) (λ _. refl)
+
+  held_put : held_of put found ≡ held_of bs found
+  held_put = rw length_put refl
+
+  bytes_put : Bytes bs → Bytes put
+  bytes_put bytes = put_by Bytes (λ within. patched_bytes bs place x (holds within) bytes) (λ _. bytes)
+
+  besides_put : besides put found.rows (held_of bs found) ≡ besides bs found.rows (held_of bs found)
+  besides_put =
+      put_by
+      (λ b. besides b found.rows (held_of bs found) ≡ besides bs found.rows (held_of bs found))
+      (λ within. besides_stay bs found.rows (held_of bs found) reach field.offset x within (held_lie bs found.rows found.count reach within).1 field.past_ends field.small)
+      (λ _. refl)
+
+  scheme_put : x < 2 ^ 32 → found_scheme put found ≡ over (found_scheme bs found) (changed (field.edit x) (found_scheme bs found).reaches reach)
+  scheme_put fits =
+      ap (scheme_at put found.rows) held_put
+      ∙ put_by
+      (λ b. scheme_at b found.rows (held_of bs found) ≡ over (found_scheme bs found) (changed (field.edit x) (found_scheme bs found).reaches reach))
       (λ within.
-      let lie = held_lie (file_bytes f) f.rows f.count reach within in
-      let q = row_place f.rows reach + field.offset in
-      let level : length (patched (file_bytes f) q x) ≡ length (file_bytes f) =
-      length_patched (file_bytes f) q x (omega (arith, field.small, lie.1)) in
-      scheme_of
-      ∙ ap (λ bs. scheme_in bs f.rows f.count) (sym (cond_below reach (held_rows f) (patched (file_bytes f) q x) (file_bytes f) within))
-      ∙ ap (λ n. scheme_at (patched (file_bytes f) q x) f.rows (cond (leb 12 f.rows && leb (f.rows + 12 * f.count) n) f.count 0)) level
-      ∙ scheme_after field (file_bytes f) f.rows (held_rows f) reach x within lie.1 fits lie.0)
-      (λ past.
-      scheme_of
-      ∙ ap (λ bs. scheme_in bs f.rows f.count) (sym (cond_above reach (held_rows f) _ (file_bytes f) (file_bytes f) past refl))
-      ∙ ap (over (file_scheme f)) (sym (changed_past (field.edit x) (file_scheme f).reaches reach (omega (arith, file_reaches f)))))
-      (cases_lt reach (held_rows f))
+      let lie = held_lie bs found.rows found.count reach within in
+      scheme_after field bs found.rows (held_of bs found) reach x within lie.1 fits lie.0)
+      (λ past. ap (over (found_scheme bs found)) (sym (changed_past (field.edit x) (found_scheme bs found).reaches reach (omega (arith, length_rows bs found.rows (held_of bs found))))))
 
-  -- a write changes bytes of the row block's body alone
-  stays_within : Accepted f → reach < held_rows f → Accepted g
-  stays_within ok within =
-      let lie = held_lie (file_bytes f) f.rows f.count reach within in
-      let q = row_place f.rows reach + field.offset in
-      let holds : q + 4 ≤ length (file_bytes f) = omega (arith, field.small, lie.1) in
-      let below : q + 4 ≤ end_at (file_bytes f) ok.block =
-      omega (arith, field.small, ok.whole, ok.begin, held_most (file_bytes f) f.rows f.count) in
-      let is : file_bytes g ≡ patched (file_bytes f) q x =
-      bytes ∙ sym (cond_below reach (held_rows f) (patched (file_bytes f) q x) (file_bytes f) within) in
-      let level : length (file_bytes g) ≡ length (file_bytes f) =
-      ap length is ∙ length_patched (file_bytes f) q x holds in
-      let apart : (k : ℕ) → (k < ok.block + 6) ⊎ (end_at (file_bytes f) ok.block ≤ k) → get_or (file_bytes g) k 0 ≡ get_or (file_bytes f) k 0 =
-      λ k outside. ap (λ bs. get_or bs k 0) is ∙ ⊎_elim (λ before. patched_below (file_bytes f) q x holds k (omega (arith, ok.begin))) (λ after. patched_above (file_bytes f) q x holds k (omega arith)) outside in
-      record {
-        block = ok.block;
-        found = row_block_same (file_bytes f) (file_bytes g) ok.block level apart ok.found;
-        begin = rows ∙ ok.begin;
-        whole = ap (λ n. 12 * n) count ∙ ok.whole ∙ sym (length_same (file_bytes f) (file_bytes g) ok.block level apart ok.block (inl (omega arith)));
-        bytes = subst Bytes (sym is) (patched_bytes (file_bytes f) q x holds ok.bytes);
-      }
+  found_put : FoundIn bs found → FoundIn put found
+  found_put ok =
+      let all = (rows_of bs found ok ok.contents ok.file).held in
+      found_kept bs put found ok (bytes_put ok.bytes) length_put
+      (ap (besides put found.rows) (sym all) ∙ besides_put ∙ ap (besides bs found.rows) all)
 
-  stays_past : Accepted f → held_rows f ≤ reach → Accepted g
-  stays_past ok past =
-      let is : file_bytes g ≡ file_bytes f =
-      bytes ∙ sym (cond_above reach (held_rows f) _ (file_bytes f) (file_bytes f) past refl) in
-      record {
-        block = ok.block;
-        found = ap block_of_rows is ∙ ok.found;
-        begin = rows ∙ ok.begin;
-        whole = ap (λ n. 12 * n) count ∙ ok.whole ∙ ap (λ bs. length_at bs ok.block) (sym is);
-        bytes = subst Bytes (sym is) ok.bytes;
-      }
+module _ (field : Field) (f g : SchemeFile) (reach x : ℕ)
+    (bytes : file_bytes g ≡ row_patched f reach field.offset x) (found : g.found ≡ f.found) where
+  pub file_after : x < 2 ^ 32 → file_scheme g ≡ over (file_scheme f) (changed (field.edit x) (file_scheme f).reaches reach)
+  file_after fits =
+      ap (found_scheme (file_bytes g)) found
+      ∙ ap (λ bs. found_scheme bs f.found) bytes
+      ∙ scheme_put field (file_bytes f) f.found reach x fits
 
-  pub stays_accepted : Accepted f → Accepted g
-  stays_accepted ok = ⊎_elim (stays_within ok) (stays_past ok) (cases_lt reach (held_rows f))
+  pub file_stays : Accepted f → Accepted g
+  file_stays ok =
+      let kept : FoundIn (file_bytes g) f.found =
+      subst (λ bs. FoundIn bs f.found) (sym bytes) (found_put field (file_bytes f) f.found reach x ok) in
+      subst (FoundIn (file_bytes g)) (sym found) kept
 
   pub file_keeps : g.bytes.ghost_name ≡ f.bytes.ghost_name → file_kept g ≡ file_kept f
   file_keeps loan =
-      let bs = row_patched f reach field.offset x in
-      ap (λ l. kept_in (file_bytes g) g.rows g.count l) loan
-      ∙ ap (λ b. kept_in b g.rows g.count f.bytes.ghost_name) bytes
-      ∙ ap (λ p. kept_in bs p g.count f.bytes.ghost_name) rows
-      ∙ ap (λ n. kept_in bs f.rows n f.bytes.ghost_name) count
-      ∙ ⊎_elim
-      (λ within.
-      ap (λ b. kept_in b f.rows f.count f.bytes.ghost_name)
-      (sym (cond_below reach (held_rows f) (patched (file_bytes f) (row_place f.rows reach + field.offset) x) (file_bytes f) within))
-      ∙ kept_put field (file_bytes f) f.rows f.count reach x f.bytes.ghost_name within)
-      (λ past.
-      ap (λ b. kept_in b f.rows f.count f.bytes.ghost_name)
-      (sym (cond_above reach (held_rows f) _ (file_bytes f) (file_bytes f) past refl)))
-      (cases_lt reach (held_rows f))
+      let put = row_patched f reach field.offset x in
+      let long : length put ≡ length (file_bytes f) = length_put field (file_bytes f) f.found reach x in
+      let held : held_of put f.found ≡ held_of (file_bytes f) f.found = held_put field (file_bytes f) f.found reach x in
+      let rest : besides put f.found.rows (held_of (file_bytes f) f.found) ≡ besides (file_bytes f) f.found.rows (held_of (file_bytes f) f.found) =
+      besides_put field (file_bytes f) f.found reach x in
+      cc

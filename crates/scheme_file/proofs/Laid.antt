@@ -2,6 +2,7 @@
 use Rattle.std.proofs.Common.{◌≡◌, ℕ, zero, suc, ◌+◌, ◌*◌, ◌/◌, ◌%◌, ◌^◌, ◌<◌, ◌≤◌, Bool, true, false, cond, eqb, leb, List, [], ◌∷◌, ◌++◌, map, length, get_or, is_some, Some, None, Ok, Option, sym, refl, ap, ◌∙◌, subst, arith}
 use Rattle.std.specs.List.{flat_map, AllByRecursion}
 use Rattle.std.proofs.lemmas.List.{append_assoc, append-nil, length-append, get_or-append-add, same_lists}
+use Rattle.std.proofs.lemmas.Grind.{flat_map-append}
 use Rattle.std.proofs.lemmas.Bool.{and_from, eq-eqb, le-leb, ne_eqb}
 use Rattle.scheme.specs.declared.rows.Reach.{Reach}
 use Rattle.scheme.specs.Scheme.{Scheme}
@@ -120,11 +121,6 @@ notes_walked (n ∷ ns) bs pre rest seen laid short later w =
     notes_walked ns bs (pre ++ first) rest seen (here ∙ sym (append_assoc pre first (notes_bytes ns ++ rest))) short longer step in
     subst (λ l. Walking bs (length l) seen) (append_assoc pre first (notes_bytes ns)) more
 
-pub joined_append : {X : Type 0} (f : X → List ℕ) (xs ys : List X) → flat_map f (xs ++ ys) ≡ flat_map f xs ++ flat_map f ys
-joined_append f [] ys = refl
-joined_append f (x ∷ xs) ys =
-    ap (λ l. f x ++ l) (joined_append f xs ys) ∙ sym (append_assoc (f x) (flat_map f xs) (flat_map f ys))
-
 pub length_rows_bytes : (rs : List Reach) → length (flat_map row_bytes rs) ≡ 12 * length rs
 length_rows_bytes [] = refl
 length_rows_bytes (r ∷ rs) = omega (arith, length_rows_bytes rs)
@@ -167,7 +163,7 @@ module _ (bs : List ℕ) (c : Contents) (file : FileOf bs c) where
   laid_out : bs ≡ head_bytes c ++ (notes_bytes c.before ++ (block_bytes c ++ notes_bytes c.after))
   laid_out =
       file.laid
-      ∙ ap (λ l. head_bytes c ++ l) (joined_append record_bytes (map note c.before) (rows c.reaches ∷ map note c.after))
+      ∙ ap (λ l. head_bytes c ++ l) (flat_map-append record_bytes (map note c.before) (rows c.reaches ∷ map note c.after))
 
   pub laid_block : bs ≡ front_bytes c ++ (block_bytes c ++ notes_bytes c.after)
   laid_block =
@@ -192,11 +188,6 @@ module _ (bs : List ℕ) (c : Contents) (file : FileOf bs c) where
       let all : length bs ≤ length ((front_bytes c ++ block_bytes c) ++ a) =
       omega (arith, ap length (laid_block ∙ sym (append_assoc (front_bytes c) (block_bytes c) a))) in
       walking_all bs _ _ w4 file.short all
-
-  pub laid_size : length_at bs (length (front_bytes c)) ≡ 12 * length c.reaches
-  laid_size =
-      length_here bs (front_bytes c) (notes_bytes c.after) (rows c.reaches) laid_block file.short
-      ∙ length_rows_bytes c.reaches
 
   pub laid_count : length_at bs (length (front_bytes c)) / 12 ≡ length c.reaches
   laid_count =

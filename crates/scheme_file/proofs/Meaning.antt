@@ -2,15 +2,14 @@
 use Rattle.std.proofs.Common.{◌≡◌, ℕ, ◌+◌, ◌*◌, ◌/◌, ◌≤◌, leb, List, length, Ok, Err, sym, ap, ◌∙◌, arith}
 use Rattle.std.proofs.lemmas.Bool.{and_from, cond-true, le-leb}
 use Rattle.scheme.specs.declared.faults.Refusal.{Refusal}
-use Rattle.scheme_file.specs.declared.files.SchemeFile.{SchemeFile}
 use Rattle.scheme_file.specs.declared.reading.Found.{Found}
 use Rattle.scheme_file.specs.Asked.{length_at, block_of_rows}
-use Rattle.scheme_file.specs.Files.{Accepted, FoundIn, file_bytes, file_found, file_scheme, found_scheme, held_of}
+use Rattle.scheme_file.specs.Files.{FoundIn, found_scheme, held_of}
 use Rattle.scheme_file.specs.Layout.{Contents, FileOf, Means, NoFile, contents_scheme, front_bytes, rows_begin}
 use Rattle.scheme_file.specs.Reading.{Bytes}
 use Rattle.scheme_file.specs.Rows.{scheme_at}
 use Rattle.scheme_file.proofs.Cut.{contents}
-use Rattle.scheme_file.proofs.Laid.{laid_count, laid_found, laid_lies, laid_scheme, laid_size}
+use Rattle.scheme_file.proofs.Laid.{laid_count, laid_found, laid_lies, laid_scheme}
 
 held_all :
     (bs : List ℕ) (found : Found) → 12 ≤ found.rows → found.rows + 12 * found.count ≤ length bs
@@ -84,25 +83,6 @@ walk_found bs found block bytes walked begin count =
       count = count ∙ ap (λ p. length_at bs p / 12) front ∙ laid_count bs made.0 made.1;
       bytes = bytes;
     }
-
--- A file is accepted exactly if its rows lie where they are said to have been found.
-module _ (f : SchemeFile) where
-  pub found_accepted : FoundIn (file_bytes f) (file_found f) → Accepted f
-  found_accepted ok =
-      record {
-        block = length (front_bytes ok.contents);
-        found = laid_found (file_bytes f) ok.contents ok.file;
-        begin = ok.begin;
-        whole = ap (λ n. 12 * n) ok.count ∙ sym (laid_size (file_bytes f) ok.contents ok.file);
-        bytes = ok.bytes;
-      }
-
-  pub accepted_found : Accepted f → FoundIn (file_bytes f) (file_found f)
-  accepted_found ok =
-      walk_found (file_bytes f) (file_found f) ok.block ok.bytes ok.found ok.begin (omega (arith, ok.whole))
-
-  pub accepted_means : Accepted f → Means (file_bytes f) (file_scheme f)
-  accepted_means ok = found_means (file_bytes f) (file_found f) (accepted_found ok)
 
 pub refused_no_file : (bs : List ℕ) (refusal : Refusal) → block_of_rows bs ≡ Err refusal → NoFile bs
 refused_no_file bs refusal refused c file =

@@ -1,27 +1,16 @@
 -- Four bytes of a file replaced by a number.
-use Rattle.std.proofs.Common.{◌≡◌, ℕ, zero, suc, ◌+◌, ◌-◌, ◌/◌, ◌%◌, ◌^◌, ◌<◌, ◌≤◌, ◌⊎◌, List, ◌++◌, length, get_or, take, sym, refl, ap, ◌∙◌, subst, inl, inr, ⊎_elim, add-zero, mod-eq_of_lt, arith, rules}
-use native.Mathlib.Nat.{div-div-eq-div-mul}
+use Rattle.std.proofs.Common.{◌≡◌, ℕ, zero, suc, ◌+◌, ◌-◌, ◌/◌, ◌%◌, ◌^◌, ◌<◌, ◌≤◌, ◌⊎◌, List, ◌++◌, length, get_or, take, sym, refl, ap, ◌∙◌, subst, inl, inr, ⊎_elim, add-zero, arith, rules}
 use borrow.Rule.Slice.PartMut.{put_mid}
-use Rattle.std.proofs.lemmas.Nat.{div-add-mod', div_below, mod_below}
+use Rattle.std.proofs.lemmas.Nat.{from_le_bytes-to_le_bytes_4, mod_below}
 use Rattle.std.proofs.lemmas.List.{places, length-append, length-take, length-drop, drop-drop}
 use Rattle.scheme_file.specs.Numbers.{four, two_at, four_at}
 use Rattle.std.proofs.lemmas.Bool.{cases_lt}
 use Rattle.scheme_file.specs.Reading.{Bytes}
 use Rattle.scheme_file.specs.Rows.{patched}
 
--- a number of four bytes read back, by the bytes above each
+-- a number of four bytes read back
 pub four_back : (x : ℕ) → x < 2 ^ 32 → four_at (four x) 0 ≡ x
-four_back x fits =
-    let top : x / 16777216 % 256 ≡ x / 16777216 = mod-eq_of_lt (div_below x 16777216 256 (omega arith) fits) in
-    omega (
-      arith,
-      top,
-      div-add-mod' x 256,
-      div-add-mod' (x / 256) 256,
-      div-add-mod' (x / 65536) 256,
-      div-div-eq-div-mul x 256 256,
-      div-div-eq-div-mul x 65536 256,
-    )
+four_back x fits = from_le_bytes-to_le_bytes_4 x fits
 
 four_bytes : (x k : ℕ) → get_or (four x) k 0 < 256
 four_bytes x zero = mod_below x 256 (omega arith)

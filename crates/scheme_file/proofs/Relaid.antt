@@ -3,6 +3,7 @@
 use Rattle.std.proofs.Common.{◌≡◌, ℕ, ◌+◌, ◌*◌, ◌≤◌, List, ◌∷◌, ◌++◌, map, length, take, drop, sym, ap, ◌∙◌, subst, arith}
 use Rattle.std.specs.List.{flat_map}
 use Rattle.std.proofs.lemmas.List.{append_assoc, drop_at, length-append, take-append-drop, take_at}
+use Rattle.std.proofs.lemmas.Grind.{flat_map-append}
 use Rattle.scheme_file.specs.declared.reading.Found.{Found}
 use Rattle.scheme_file.specs.Files.{FoundIn, besides}
 use Rattle.scheme_file.specs.Layout.{Contents, FileOf, front_bytes, note, record_bytes, records, row_bytes, rows, with_reaches}
@@ -11,7 +12,7 @@ use Rattle.scheme_file.specs.Reading.{Bytes}
 use Rattle.scheme_file.specs.Rows.{rows_at}
 use Rattle.scheme_file.proofs.Besides.{same_before, same_behind}
 use Rattle.scheme_file.proofs.Cut.{rows_fit, rows_from_lem}
-use Rattle.scheme_file.proofs.Laid.{head_bytes, joined_append, laid_block, length_rows_bytes, notes_bytes}
+use Rattle.scheme_file.proofs.Laid.{head_bytes, laid_block, length_rows_bytes, notes_bytes}
 use Rattle.scheme_file.proofs.Meaning.{RowsOf, rows_of}
 use Rattle.scheme_file.proofs.RowLists.{length_rows}
 
@@ -44,7 +45,7 @@ laid_cut bs c cut =
     ∙ append_assoc (head_bytes c) (notes_bytes c.before) block
     ∙ ap
     (λ l. head_bytes c ++ l)
-    (sym (joined_append record_bytes (map note c.before) (rows c.reaches ∷ map note c.after)))
+    (sym (flat_map-append record_bytes (map note c.before) (rows c.reaches ∷ map note c.after)))
 
 module _ (bs cs : List ℕ) (found : Found) (c : Contents) (file : FileOf bs c) (place : RowsOf bs found c)
     (bytes : Bytes cs) (level : length cs ≡ length bs)

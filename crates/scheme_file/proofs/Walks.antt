@@ -1,7 +1,7 @@
 -- The walk over a file's records, a turn at a time.
-use Rattle.std.proofs.Common.{◌≡◌, ℕ, zero, suc, pred, ◌+◌, ◌/◌, ◌%◌, ◌<◌, ◌≤◌, Bool, cond, eqb, ltb, ◌⊎◌, List, length, is_some, IfSome, Some, None, Err, Option, sym, refl, ap, ◌∙◌, inl, inr, ⊎_elim, arith}
+use Rattle.std.proofs.Common.{◌≡◌, ℕ, zero, suc, pred, Ok, true, ◌+◌, ◌/◌, ◌%◌, ◌<◌, ◌≤◌, Bool, eqb, ◌⊎◌, List, length, is_some, IfSome, Some, None, Err, Option, sym, refl, ap, ◌∙◌, inl, inr, ⊎_elim, arith}
 use native.Mathlib.Nat.{suc-pred-eq_of_pos}
-use Rattle.std.proofs.lemmas.Bool.{lt-ltb, le-ltb, le-leb, cases_Bool, cases_lt, eqb-true, ne_eqb}
+use Rattle.std.proofs.lemmas.Bool.{lt-ltb, le-ltb, le-leb, cases_Bool, eqb-true, ne_eqb}
 use Rattle.std.proofs.lemmas.Bool.Decides.{nat_tests}
 use Rattle.scheme.specs.declared.faults.Layer.TheVariants.{File}
 use Rattle.scheme.specs.declared.faults.Refusal.{Refusal}
@@ -24,6 +24,27 @@ pub walk_all :
     (turns : ℕ) (bs : List ℕ) (at : ℕ) (rows : Option ℕ) → length bs ≤ at → walk turns bs at rows ≡ ending at rows
 walk_all zero bs at rows past = refl
 walk_all (suc turns) bs at rows past = rw (le-ltb at (length bs) past)
+
+cases_asked : (o : Option Refusal) → (o ≡ None) ⊎ ((x : Refusal) × (o ≡ Some x))
+cases_asked None = inl refl
+cases_asked (Some x) = inr (x, refl)
+
+-- a walk that ends well goes past every record without a refusal
+pub walks_on :
+    (turns : ℕ) (bs : List ℕ) (at : ℕ) (rows : Option ℕ) (block : ℕ) → at < length bs
+    → walk (suc turns) bs at rows ≡ Ok block → ask_record bs at (is_some rows) ≡ None
+walks_on turns bs at rows block within ends =
+    ⊎_elim
+    (λ none. none)
+    (λ some.
+    let stops = walk_refused turns bs at rows some.0 within some.1 in
+    let z : ◌≡◌ {A = ℕ} 0 1 = cc in
+    absurd (omega arith))
+    (cases_asked (ask_record bs at (is_some rows)))
+
+-- a second row block is refused
+pub no_second : (bs : List ℕ) (at : ℕ) → ask_record bs at true ≡ None → kind_at bs at ≡ 2 → ⊥
+no_second bs at asked kind = grind (arith, nat_tests)
 
 -- what the questions of a record tell where it answers them all with yes
 pub record Taken (bs : List ℕ) (at : ℕ) : Type 0 where
@@ -109,25 +130,6 @@ module _ (bs : List ℕ) (at : ℕ) (rows : Option ℕ) (w : Walking bs at rows)
 
   pub walking_all : length bs ≤ at → block_of_rows bs ≡ ending at rows
   walking_all past = sym rest ∙ walk_all w.turns bs at rows past
-
--- a record that was asked, by the answer that tells it
-pub asked_of :
-    (bs : List ℕ) (at : ℕ) (rows : Option ℕ) (seen : Bool) (q : Option Refusal) → at < length bs → seen ≡ is_some rows
-    → q ≡ cond (ltb at (length bs)) (ask_record bs at seen) None → ask_record bs at (is_some rows) ≡ q
-asked_of bs at rows seen q within e told =
-    ap (ask_record bs at) (sym e) ∙ sym (told ∙ rw (lt-ltb at (length bs) within) refl)
-
-pub asked_within :
-    (bs : List ℕ) (at : ℕ) (seen : Bool) (refusal : Refusal)
-    → Some refusal ≡ cond (ltb at (length bs)) (ask_record bs at seen) None → at < length bs
-asked_within bs at seen refusal told =
-    ⊎_elim
-    (λ lt. lt)
-    (λ past.
-    let none : cond (ltb at (length bs)) (ask_record bs at seen) None ≡ None = rw (le-ltb at (length bs) past) refl in
-    let z : ◌≡◌ {A = ℕ} 0 1 = cc in
-    omega arith)
-    (cases_lt at (length bs))
 
 pub ending_later : (at : ℕ) → (at ≡ 0 → ⊥) → ending at None ≡ Err (refused File 5 at)
 ending_later at later = rw (ne_eqb at 0 later) refl

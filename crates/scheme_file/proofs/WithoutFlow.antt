@@ -6,7 +6,7 @@ use Rattle.scheme_file.specs.declared.files.SchemeFile.{SchemeFile}
 use Rattle.scheme_file.specs.declared.reading.Found.{Found}
 use Rattle.scheme_file.specs.Asked.{fault_of}
 use Rattle.scheme_file.specs.Clearing.{Cleared, without_flow}
-use Rattle.scheme_file.specs.Files.{FoundIn, besides, file_bytes, file_found, file_kept, file_scheme, found_scheme, held_of}
+use Rattle.scheme_file.specs.Files.{FoundIn, besides, file_bytes, file_kept, file_scheme, found_scheme, held_of}
 use Rattle.scheme_file.specs.Layout.{Contents, FileOf, with_reaches}
 use Rattle.scheme_file.specs.Reading.{Bytes}
 use Rattle.scheme_file.specs.Rows.{rows_at}
@@ -52,19 +52,19 @@ module _ (f g : SchemeFile) (kept : file_kept g ≡ file_kept f) where
   numbers : (file_kept g).numbers ≡ (file_kept f).numbers
   numbers = ap (λ k. k.numbers) kept
 
-  same_found : file_found g ≡ file_found f
+  same_found : g.found ≡ f.found
   same_found =
       let all = numbers in
-      let rows : g.rows ≡ f.rows = cc in
-      let count : g.count ≡ f.count = cc in
+      let rows : g.found.rows ≡ f.found.rows = cc in
+      let count : g.found.count ≡ f.found.count = cc in
       found_of _ _ _ _ rows count
 
   same_length : length (file_bytes g) ≡ length (file_bytes f)
   same_length = let all = numbers in cc
 
   same_besides :
-      besides (file_bytes g) g.rows (held_of (file_bytes g) (file_found g))
-      ≡ besides (file_bytes f) f.rows (held_of (file_bytes f) (file_found f))
+      besides (file_bytes g) g.found.rows (held_of (file_bytes g) g.found)
+      ≡ besides (file_bytes f) f.found.rows (held_of (file_bytes f) f.found)
   same_besides = let all = numbers in cc
 
   pub same_loan : g.bytes.ghost_name ≡ f.bytes.ghost_name
@@ -72,10 +72,10 @@ module _ (f g : SchemeFile) (kept : file_kept g ≡ file_kept f) where
 
 -- A loan of a file's bytes: `f` as it was lent, `g` as it is at the end, and the bytes that the lender has then.
 pub cleared_loan :
-    (bs cs : List ℕ) (found : Found) (f g : SchemeFile) → FoundIn bs found → file_bytes f ≡ bs → file_found f ≡ found
+    (bs cs : List ℕ) (found : Found) (f g : SchemeFile) → FoundIn bs found → file_bytes f ≡ bs → f.found ≡ found
     → file_kept g ≡ file_kept f → file_scheme g ≡ emptied (file_scheme f) → cs ≡ file_bytes g → Bytes cs → Cleared bs cs
 cleared_loan bs cs found f g ok lent rows kept still given bytes =
-    let at : file_found g ≡ found = same_found f g kept ∙ rows in
+    let at : g.found ≡ found = same_found f g kept ∙ rows in
     cleared bs cs found ok bytes
     (ap length given ∙ same_length f g kept ∙ ap length lent)
     (ap (λ b. besides b found.rows (held_of b found)) given

@@ -1,6 +1,8 @@
 pub mod Numbers
+pub mod Kinds
 pub mod Asked
 pub mod Parts
+pub mod Walking
 pub mod Reading
 pub mod Rows
 pub mod Files

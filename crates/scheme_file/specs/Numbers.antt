@@ -1,5 +1,6 @@
 -- Numbers of two and four bytes, the low byte first.
-use Rattle.std.specs.Prelude.{ℕ, ◌+◌, ◌*◌, ◌/◌, ◌%◌, List, [], ◌∷◌, slice_index}
+use Rattle.std.specs.Prelude.{ℕ, ◌+◌, ◌*◌, ◌/◌, ◌%◌, List, [], ◌∷◌, map, slice_index}
+use Rattle.std.specs.List.{range_with_len}
 
 -- a number as bytes
 abbrev pub two : ℕ → List ℕ
@@ -7,6 +8,10 @@ two n = (n % 256) ∷ (n / 256 % 256) ∷ []
 
 abbrev pub four : ℕ → List ℕ
 four n = (n % 256) ∷ (n / 256 % 256) ∷ (n / 65536 % 256) ∷ (n / 16777216 % 256) ∷ []
+
+-- so many bytes from a place on, each 0 that is past the end
+abbrev pub bytes_from : List ℕ → ℕ → ℕ → List ℕ
+bytes_from bs p n = map (λ k. slice_index bs (p + k)) (range_with_len 0 n)
 
 -- the number that the bytes from a place on are
 abbrev pub two_at : List ℕ → ℕ → ℕ

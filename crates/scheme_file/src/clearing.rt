@@ -3,7 +3,6 @@ ghost use Rattle.std.specs.Prelude.{◌≡◌, MatchResult};
 ghost use Rattle.scheme.specs.Refusals.{file_refusal, refusal_of};
 ghost use Rattle.scheme_file.specs.Asked.{file_fault};
 ghost use Rattle.scheme_file.specs.Clearing.{Cleared};
-ghost use Rattle.scheme_file.specs.Reading.{Bytes};
 
 use crate::files::SchemeFile;
 use crate::reading::read;
@@ -17,13 +16,5 @@ pub fn clear_file(bytes: &mut [u8]) -> Result<(), FileFault>
     let found = read(bytes)?;
     let mut file = SchemeFile::lend(bytes, found);
     clear_flows(&mut file);
-    tell_bytes(bytes);
     Ok(())
-}
-
-// That what a slice holds are bytes, which a proof knows of a parameter and not of a slice that was lent.
-fn tell_bytes(bytes: &[u8])
-    ensures { Bytes bytes.now }
-{
-    let _ = bytes.is_empty();
 }

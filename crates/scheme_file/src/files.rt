@@ -3,11 +3,10 @@ mod book;
 mod lending;
 mod opening;
 
+use crate::reading::Found;
+
 #[derive(Drop)]
 pub struct SchemeFile<'a> {
     bytes: &'a mut [u8],
-    // the place of the first row
-    rows: u32,
-    // how many rows there are
-    count: u32,
+    found: Found,
 }

@@ -1,21 +1,21 @@
-// The records of a file, one at a time, as parts that borrow it.
-ghost use Rattle.std.specs.Prelude.{◌≡◌, ◌+◌, ◌<◌, ◌≤◌, length, IfOk, if◌then◌else◌, None, MatchOption, nat_lt};
+// The records of a file, as parts that borrow it.
+ghost use Rattle.std.specs.Prelude.{◌≡◌, ◌+◌, ◌<◌, ◌≤◌, length, option_map, IfOk, if◌then◌else◌, None, MatchOption, nat_lt, true, false};
 ghost use Rattle.scheme.specs.Refusals.{file_refusal, refusal_of};
-ghost use Rattle.scheme_file.specs.Asked.{ask_record};
-ghost use Rattle.scheme_file.specs.Parts.{PartAt, end_of_part, part_kind, part_place, part_size};
+ghost use Rattle.std.specs.List.{between};
+ghost use Rattle.scheme_file.specs.Asked.{ask_record, end_at, inside, length_at};
+ghost use Rattle.scheme_file.specs.Kinds.{kind_number};
+ghost use Rattle.scheme_file.specs.Numbers.{two_at};
+ghost use Rattle.scheme_file.specs.Parts.{PartAt, end_of_part, head_body, part_kind, part_place, part_size};
 ghost use Rattle.scheme_file.specs.Parts.{part_inlet, part_outlet, part_points};
 
+use crate::kinds::Kind;
 use crate::numbers::{get_u16, get_u32};
 use scheme::FileFault;
 
 // A record is a body length, a kind and the body.
 pub(crate) const HEADER: usize = 6;
 
-const HEAD: u16 = 1;
-
-const ROWS: u16 = 2;
-
-const NOTE: u16 = 3;
+const KIND: usize = 4;
 
 const HEAD_SIZE: usize = 6;
 
@@ -23,33 +23,31 @@ pub(crate) const ROW_SIZE: usize = 12;
 
 const MOST_ROWS: usize = 4096;
 
-// A record with the place of its first byte. Rows and notes are lent out of the file.
+// A record with the place of its first byte. Its body is lent out of the file.
 #[derive(Clone, Copy)]
 pub enum Part<'a> {
     Head {
         at: usize,
-        points: u16,
-        inlet: u16,
-        outlet: u16,
+        body: &'a [u8; HEAD_SIZE],
     },
     Rows {
         at: usize,
-        bytes: &'a [u8],
+        body: &'a [u8],
     },
     Note {
         at: usize,
-        bytes: &'a [u8],
+        body: &'a [u8],
     },
 }
 
 impl Part<'_> {
-    pub fn kind(&self) -> u16
-        ensures { result ≡ part_kind self.now }
+    pub fn kind(&self) -> Kind
+        ensures { kind_number result ≡ part_kind self.now }
     {
         match self {
-            Part::Head { .. } => HEAD,
-            Part::Rows { .. } => ROWS,
-            Part::Note { .. } => NOTE,
+            Part::Head { .. } => Kind::Head,
+            Part::Rows { .. } => Kind::Rows,
+            Part::Note { .. } => Kind::Note,
         }
     }
 
@@ -58,9 +56,7 @@ impl Part<'_> {
         ensures { result ≡ part_place self.now }
     {
         match self {
-            Part::Head { at, .. } => *at,
-            Part::Rows { at, .. } => *at,
-            Part::Note { at, .. } => *at,
+            Part::Head { at, .. } | Part::Rows { at, .. } | Part::Note { at, .. } => *at,
         }
     }
 
@@ -70,8 +66,7 @@ impl Part<'_> {
     {
         match self {
             Part::Head { .. } => HEAD_SIZE,
-            Part::Rows { bytes, .. } => bytes.len(),
-            Part::Note { bytes, .. } => bytes.len(),
+            Part::Rows { body, .. } | Part::Note { body, .. } => body.len(),
         }
     }
 
@@ -88,29 +83,39 @@ impl Part<'_> {
     pub fn points(&self) -> Option<u16>
         ensures { result ≡ part_points self.now }
     {
-        match self {
-            Part::Head { points, .. } => Some(*points),
-            Part::Rows { .. } | Part::Note { .. } => None,
-        }
+        self.number(0)
     }
 
     pub fn inlet(&self) -> Option<u16>
         ensures { result ≡ part_inlet self.now }
     {
-        match self {
-            Part::Head { inlet, .. } => Some(*inlet),
-            Part::Rows { .. } | Part::Note { .. } => None,
-        }
+        self.number(2)
     }
 
     pub fn outlet(&self) -> Option<u16>
         ensures { result ≡ part_outlet self.now }
     {
+        self.number(4)
+    }
+
+    fn number(&self, offset: usize) -> Option<u16>
+        requires { offset < 6 }
+        ensures { result ≡ option_map (λ body. two_at body offset) (head_body self.now) }
+    {
         match self {
-            Part::Head { outlet, .. } => Some(*outlet),
+            Part::Head { body, .. } => Some(get_u16(*body, offset)),
             Part::Rows { .. } | Part::Note { .. } => None,
         }
     }
+}
+
+// The body of the record at a place, if the record lies wholly inside the file.
+fn body_at(bytes: &[u8], at: usize) -> Option<&[u8]>
+    requires { at < length bytes.now }
+    ensures { MatchOption result (inside bytes.now at ≡ false) (λ body. (inside bytes.now at ≡ true) × (length body.now ≡ length_at bytes.now at) × (body.now ≡ between (at + 6) (end_at bytes.now at) bytes.now)) }
+{
+    let size = get_u32(bytes, at) as usize;
+    bytes.get(at + HEADER..)?.get(..size)
 }
 
 // The record at a place, or nothing at the file's end. `rows_seen` tells whether a row block came before.
@@ -121,30 +126,27 @@ pub fn part_at(bytes: &[u8], at: usize, rows_seen: bool) -> Result<Option<Part<'
     if at >= bytes.len() {
         return Ok(None);
     }
-    let space = bytes.len() - at;
-    if space < HEADER {
+    let Some(body) = body_at(bytes, at) else {
         return Err(FileFault::CutShort(at));
-    }
-    let size = get_u32(bytes, at) as usize;
-    if space - HEADER < size {
-        return Err(FileFault::CutShort(at));
-    }
-    let body = &bytes[at + HEADER..at + HEADER + size];
-    match get_u16(bytes, at + 4) {
-        HEAD if at == 0 && size == HEAD_SIZE => Ok(Some(Part::Head {
-            at,
-            points: get_u16(bytes, at + HEADER),
-            inlet: get_u16(bytes, at + HEADER + 2),
-            outlet: get_u16(bytes, at + HEADER + 4),
-        })),
-        ROWS if at > 0 => {
+    };
+    let Ok(kind) = Kind::try_from(get_u16(bytes, at + KIND)) else {
+        return Err(FileFault::UnknownKind(at));
+    };
+    match kind {
+        Kind::Head if at == 0 => {
+            let Some(body) = body.as_array() else {
+                return Err(FileFault::BadHead(at));
+            };
+            Ok(Some(Part::Head { at, body }))
+        }
+        Kind::Rows if at > 0 => {
+            let size = body.len();
             if rows_seen || size % ROW_SIZE != 0 || size / ROW_SIZE > MOST_ROWS {
                 return Err(FileFault::BadRows(at));
             }
-            Ok(Some(Part::Rows { at, bytes: body }))
+            Ok(Some(Part::Rows { at, body }))
         }
-        NOTE if at > 0 => Ok(Some(Part::Note { at, bytes: body })),
-        HEAD | ROWS | NOTE => Err(FileFault::BadHead(at)),
-        _ => Err(FileFault::UnknownKind(at)),
+        Kind::Note if at > 0 => Ok(Some(Part::Note { at, body })),
+        Kind::Head | Kind::Rows | Kind::Note => Err(FileFault::BadHead(at)),
     }
 }

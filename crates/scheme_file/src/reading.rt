@@ -7,7 +7,8 @@ ghost use Rattle.scheme_file.specs.Layout.{Means, NoFile};
 ghost use Rattle.scheme_file.specs.Reading.{told, Bytes, RowsLie};
 
 use crate::numbers::get_u32;
-use crate::parts::{HEADER, Part, ROW_SIZE, part_at};
+use crate::parts::{HEADER, Part, ROW_SIZE};
+use crate::walking::Parts;
 use scheme::FileFault;
 
 const MOST_BYTES: usize = 65536;
@@ -34,7 +35,7 @@ pub fn read(bytes: &[u8]) -> Result<Found, FileFault>
 }
 
 // The place of the file's row block.
-pub(crate) fn row_block(bytes: &[u8]) -> Result<usize, FileFault>
+fn row_block(bytes: &[u8]) -> Result<usize, FileFault>
     ensures answer { told result ≡ block_of_rows bytes.now }
     ensures lies { IfOk result (RowsLie bytes.now) }
     ensures bytes { Bytes bytes.now }
@@ -42,17 +43,15 @@ pub(crate) fn row_block(bytes: &[u8]) -> Result<usize, FileFault>
     if bytes.len() > MOST_BYTES {
         return Err(FileFault::TooLong);
     }
-    let mut at = 0;
     let mut rows = None;
-    while let Some(part) = part_at(bytes, at, rows.is_some())? {
-        if let Part::Rows { at: place, .. } = part {
-            rows = Some(place);
+    for part in Parts::new(bytes) {
+        if let Part::Rows { at, .. } = part? {
+            rows = Some(at);
         }
-        at = part.end();
     }
     match rows {
-        Some(place) => Ok(place),
-        None if at == 0 => Err(FileFault::BadHead(0)),
-        None => Err(FileFault::BadRows(at)),
+        Some(at) => Ok(at),
+        None if bytes.is_empty() => Err(FileFault::BadHead(0)),
+        None => Err(FileFault::BadRows(bytes.len())),
     }
 }

@@ -1,8 +1,8 @@
 // A scheme file that is read and never written: each read decodes its own bytes.
-ghost use Rattle.std.specs.Prelude.{◌≡◌, ◌+◌, ◌<◌, ◌≤◌, length, MatchOption};
-ghost use Rattle.scheme_file.specs.Files.{FoundIn, held_of, view_bytes, view_scheme};
+ghost use Rattle.std.specs.Prelude.{◌≡◌, ◌+◌, ◌<◌, ◌≤◌, length, option_map, slice_get, MatchOption};
+ghost use Rattle.scheme_file.specs.Files.{FoundIn, view_bytes, view_rows, view_scheme};
 ghost use Rattle.scheme_file.specs.Layout.{Means};
-ghost use Rattle.scheme_file.specs.Rows.{row_place};
+ghost use Rattle.scheme_file.specs.Rows.{row_at, row_place};
 
 use crate::numbers::{get_u16, get_u32};
 use crate::parts::ROW_SIZE;
@@ -44,8 +44,8 @@ impl<'a> SchemeView<'a> {
 
     // How many rows there are: all that reading found. (They lie behind the head and inside the bytes wherever
     // reading found them in these bytes; the type alone does not say so.)
-    pub(crate) fn held(&self) -> usize
-        ensures { result ≡ held_of (view_bytes self.now) self.now.found }
+    fn held(&self) -> usize
+        ensures { result ≡ view_rows self.now }
     {
         let count = self.found.count as usize;
         let rows = self.found.rows as usize;
@@ -58,7 +58,8 @@ impl<'a> SchemeView<'a> {
 
     // The place of a reach's row.
     pub(crate) fn row(&self, reach: usize) -> Option<usize>
-        ensures { MatchOption result (held_of (view_bytes self.now) self.now.found ≤ reach) (λ at. (reach < held_of (view_bytes self.now) self.now.found) × (at ≡ row_place self.now.found.rows reach) × (at + 12 ≤ length (view_bytes self.now))) }
+        ensures place { MatchOption result (view_rows self.now ≤ reach) (λ at. (reach < view_rows self.now) × (at ≡ row_place self.now.found.rows reach) × (at + 12 ≤ length (view_bytes self.now))) }
+        ensures row { slice_get (view_scheme self.now).reaches reach ≡ option_map (row_at (view_bytes self.now)) result }
     {
         if reach >= self.held() {
             return None;
@@ -87,22 +88,18 @@ impl Register for SchemeView<'_> {
     }
 
     fn tail(&self, reach: usize) -> Option<u16> {
-        let row = self.row(reach)?;
-        Some(get_u16(self.bytes, row))
+        Some(get_u16(self.bytes, self.row(reach)?))
     }
 
     fn head(&self, reach: usize) -> Option<u16> {
-        let row = self.row(reach)?;
-        Some(get_u16(self.bytes, row + HEAD))
+        Some(get_u16(self.bytes, self.row(reach)? + HEAD))
     }
 
     fn limit(&self, reach: usize) -> Option<u32> {
-        let row = self.row(reach)?;
-        Some(get_u32(self.bytes, row + LIMIT))
+        Some(get_u32(self.bytes, self.row(reach)? + LIMIT))
     }
 
     fn flow(&self, reach: usize) -> Option<u32> {
-        let row = self.row(reach)?;
-        Some(get_u32(self.bytes, row + FLOW))
+        Some(get_u32(self.bytes, self.row(reach)? + FLOW))
     }
 }

@@ -1,7 +1,8 @@
 -- An ordering from its first point on: what the tables held before the inlet was entered shows through.
-use Rattle.std.proofs.Common.{◌≡◌, ℕ, ◌≤◌, List, [], ◌∷◌, map, length, set, sym, refl, ap, ◌∙◌, arith}
+use Rattle.std.proofs.Common.{◌≡◌, ℕ, ◌≤◌, List, [], ◌∷◌, map, length, replicate, set, sym, refl, ap, ◌∙◌, arith}
 use Rattle.std.specs.List.{range_with_len}
 use Rattle.std.proofs.lemmas.List.FromFn.{length-map-range_with_len}
+use Rattle.scheme.specs.Bounds.{no_point}
 use Rattle.scheme.specs.Scheme.{Scheme}
 use Rattle.scheme.specs.Flow.{among}
 use Rattle.scheme.specs.Questions.{WellFormed}
@@ -10,7 +11,7 @@ use Rattle.flows.proofs.Fits.{orders_fit}
 use Rattle.solver.specs.Orders.{OrderingMade, OrderBegun}
 use Rattle.solver.specs.Raises.{HoldsKeys}
 use Rattle.solver.specs.Work.{written, position, places}
-use Rattle.solver.proofs.Written.{written_more, written_over, written_places}
+use Rattle.solver.proofs.Written.{replicated, written_more, written_over, written_places}
 
 -- what was written is there
 written_stays : (new old now : List ℕ) → now ≡ written new old → now ≡ written new now
@@ -18,13 +19,13 @@ written_stays new old now is = is ∙ sym (written_over new new old (omega arith
 
 module _ (s : Scheme) (o p o' p' : List ℕ) (v n : ℕ) (cleared : List ℕ) (formed : WellFormed s)
     (room : s.points ≤ length o) (is-inlet : v ≡ s.inlet) (is-points : n ≡ s.points)
-    (clears : cleared ≡ written (map (position 0 []) (range_with_len 0 n)) p) (listed : o' ≡ set o 0 v) (placed : p' ≡ set cleared v 0) where
+    (clears : cleared ≡ written (replicate n no_point) p) (listed : o' ≡ set o 0 v) (placed : p' ≡ set cleared v 0) where
   order_first : o' ≡ written (s.inlet ∷ []) o
   order_first = listed ∙ ap (set o 0) is-inlet ∙ written_more [] o 0 s.inlet refl (omega (arith, formed.some_points))
 
   place_first : p' ≡ written (places s (s.inlet ∷ [])) p
   place_first =
-      placed ∙ ap (λ w. set cleared w 0) is-inlet ∙ ap (λ t. set t s.inlet 0) clears
+      placed ∙ ap (λ w. set cleared w 0) is-inlet ∙ ap (λ t. set t s.inlet 0) (clears ∙ ap (λ ps. written ps p) (replicated n no_point))
       ∙ ap (λ m. set (written (map (position 0 []) (range_with_len 0 m)) p) s.inlet 0) is-points
       ∙ written_places s [] s.inlet 0 refl formed.inlet_point refl p
 

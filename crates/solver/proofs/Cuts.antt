@@ -1,22 +1,22 @@
 -- What cut writes and tells: the marks read off the table of places, their capacity, the tables, and its refusals.
-use Rattle.std.proofs.Common.{◌≡◌, ℕ, ◌+◌, ◌<◌, ◌≤◌, Bool, true, false, cond, not, eqb, leb, List, [], ◌∷◌, map, length, get_or, drop, Some, None, Err, Option, unwrap_or, sym, refl, ap, ◌∙◌, subst, ⊎_elim, arith}
-use mathlib.Core.Path.{fun_ext}
+use Rattle.std.proofs.Common.{◌≡◌, ℕ, ◌+◌, ◌<◌, ◌≤◌, Bool, true, false, cond, not, eqb, List, [], ◌∷◌, map, length, get_or, drop, replicate, Err, sym, refl, ap, ◌∙◌, subst, ⊎_elim, arith}
 use Rattle.std.specs.List.{range_with_len}
 use Rattle.std.proofs.lemmas.List.FromFn.{length-map-range_with_len, get_or-map-range_with_len, fill_by_all}
 use Rattle.std.proofs.lemmas.List.{get_or_append_left}
-use Rattle.std.proofs.lemmas.Bool.{cases_Bool, cond-true, ne_eqb, le-leb, or_left}
+use Rattle.std.proofs.lemmas.Bool.{cases_Bool, cond-true, ne_eqb, or_left}
 use Rattle.scheme.specs.declared.faults.CallFault.{CallFault}
-use Rattle.scheme.specs.Bounds.{no_point, most_reaches}
+use Rattle.scheme.specs.Bounds.{no_point}
 use Rattle.scheme.specs.Flow.{capacity, among}
 use Rattle.scheme.specs.Marks.{marked}
 use Rattle.scheme.specs.Questions.{WellFormed}
 use Rattle.scheme.specs.Scheme.{Scheme}
 use Rattle.pick.specs.Keys.{Keys, size}
 use Rattle.flows.proofs.Fits.{orders_fit}
-use Rattle.solver.specs.Calls.{AllYes, FirstNo, cut_questions, CutOrders, CutGains, CutRefused, CutDoes}
+use Rattle.solver.specs.Calls.{AllYes, cut_questions, CutOrders, CutGains, CutRefused, CutDoes}
 use Rattle.solver.specs.Orders.{OrderingMade}
-use Rattle.solver.specs.Work.{Work, work_of, written, position, places, supply, marks_of}
+use Rattle.solver.specs.Work.{Work, work_of, written, position, places, marks_of}
 use Rattle.solver.proofs.Ordered.{tables_are}
+use Rattle.solver.proofs.Written.{needs_none}
 use Rattle.solver.proofs.OwnLaws.{marks_tell, capacity_same}
 
 -- ---- the marks
@@ -65,26 +65,16 @@ marks_are s order p short =
 
 -- ---- the capacity
 
--- a well-formed scheme has one, and the marks tell that of the order
+-- the marks tell that of the order
 pub capacity_is :
-    (s : Scheme) (order marks after : List ℕ) (c : Option ℕ) → WellFormed s → after ≡ written (marks_of s order) marks
-    → c ≡ cond (leb (length s.reaches) most_reaches) (Some (capacity s (marked after))) None
-    → unwrap_or c 0 ≡ capacity s (among order)
-capacity_is s order marks after c formed are is =
-    ap (λ o. unwrap_or o 0) (is ∙ cond-true _ _ _ (le-leb (length s.reaches) most_reaches formed.few_reaches))
-    ∙ ap (λ ms. capacity s (marked ms)) are
+    (s : Scheme) (order marks after : List ℕ) → WellFormed s → after ≡ written (marks_of s order) marks
+    → capacity s (marked after) ≡ capacity s (among order)
+capacity_is s order marks after formed are =
+    ap (λ ms. capacity s (marked ms)) are
     ∙ capacity_same s (marked (written (marks_of s order) marks)) (among order) formed
     (marks_tell s order (drop (length (marks_of s order)) marks))
 
 -- ---- the tables
-
--- with no gain nobody needs anything
-needs_none : (s : Scheme) → map (λ _. 0) (range_with_len 0 s.points) ≡ supply s 0
-needs_none s = ap (λ f. map f (range_with_len 0 s.points)) (fun_ext (λ v. same (eqb v s.inlet)))
-  where
-    same : (b : Bool) → ◌≡◌ {A = ℕ} 0 (cond b 0 0)
-    same true = refl
-    same false = refl
 
 module _
     {s : Scheme} {o p o' p' : List ℕ} {gain count : ℕ} (m : OrderingMade s o p gain count o' p') (points : ℕ)
@@ -92,15 +82,14 @@ module _
   where
     pub cut_orders :
         (n n' marks : List ℕ) (ks ls : Keys) → AllYes (cut_questions s (work_of o p n) marks ks)
-        → n' ≡ written (map (λ _. 0) (range_with_len 0 points)) n → size ls ≡ size ks
+        → n' ≡ written (replicate points 0) n → size ls ≡ size ks
         → CutOrders s (work_of o p n) marks ks m.order gain (work_of o' p' n') ls
     cut_orders n n' marks ks ls asked cleared stays =
-        let none = ap (λ k. map (λ _. 0) (range_with_len 0 k)) all ∙ needs_none s in
         record {
           asked = asked;
           keys = m.keys;
           made = m.made;
-          tables = tables_are _ _ _ _ _ _ m.order_table m.place_table (cleared ∙ ap (λ ns. written ns n) none);
+          tables = tables_are _ _ _ _ _ _ m.order_table m.place_table (cleared ∙ ap (λ ns. written ns n) (needs_none s points 0 all refl));
           size_stays = stays;
         }
 
@@ -121,16 +110,9 @@ pub ordered_none :
 ordered_none {s} {w} {v} {marks} {order} {ks} {ls} {gain} ordered low =
     let none : gain ≡ 0 = omega arith in subst (λ (k : ℕ). CutOrders s w marks ks order k v ls) none ordered
 
--- ---- the refusals
+-- ---- the refusal
 
--- one before the ordering leaves all as it was
-pub refused_first :
-    (s : Scheme) (w : Work) (ks : Keys) (marks : List ℕ) (fault : CallFault) (ls : Keys)
-    → FirstNo (cut_questions s w marks ks) fault → ls ≡ ks → CutDoes s w ks marks (Err fault) w ls marks
-refused_first s w ks marks fault ls tells stays =
-    subst (λ q. CutRefused q s w ks marks fault w ls marks) (sym tells) (refl, refl, stays, refl)
-
--- the one after it leaves the ordering
+-- it leaves the ordering
 pub refused_gain :
     (s : Scheme) (w : Work) (ks : Keys) (marks : List ℕ) (fault : CallFault) (v : Work) (ls : Keys) (after : List ℕ)
     → AllYes (cut_questions s w marks ks) → CutGains s w ks marks fault v ls after

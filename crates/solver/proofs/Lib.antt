@@ -18,5 +18,4 @@ pub mod Holding
 pub mod Running
 pub mod Cuts
 pub mod Histories
-pub mod Lent
 pub mod Replays

@@ -1,8 +1,8 @@
 -- The table of needs, as a push writes it.
-use Rattle.std.proofs.Common.{◌≡◌, ℕ, ◌+◌, ◌-◌, ◌<◌, ◌≤◌, cond, eqb, ◌≢◌, List, length, get_or, set, sym, refl, ap, ◌∙◌, ⊎_elim, arith, length-set}
+use Rattle.std.proofs.Common.{◌≡◌, ℕ, ◌+◌, ◌-◌, ◌<◌, ◌≢◌, List, length, get_or, set, sym, refl, ap, ◌∙◌, ⊎_elim, arith, length-set}
 use mathlib.Core.Path.{fun_ext}
-use Rattle.std.proofs.lemmas.List.{get_or_past, get_or-set_same, get_or-set_other}
-use Rattle.std.proofs.lemmas.Bool.{cases_eq, cases_lt, eq-eqb, ne_eqb}
+use Rattle.std.proofs.lemmas.List.{get_or-set_same, get_or-set_other}
+use Rattle.std.proofs.lemmas.Bool.{cases_eq, eq-eqb, ne_eqb}
 use Rattle.flows.specs.Push.{Needs, moved}
 use Rattle.solver.specs.PushSteps.{needs_of}
 
@@ -46,17 +46,3 @@ pub moved_table :
     → let less = set need v (get_or need v 0 - a) in needs_of (set less u (get_or less u 0 + a)) ≡ moved a v u (needs_of need)
 unfolding less
 moved_table need a v u inside there apart = fun_ext (written_twice need a v u inside there apart)
-
--- a table of zeros with one number written
-pub one_written :
-    (need : List ℕ) (o i g : ℕ) → o < length need → i ≡ o → ((w : ℕ) → w < length need → get_or need w 0 ≡ 0)
-    → (w : ℕ) → needs_of (set need i g) w ≡ cond (eqb o w) g 0
-one_written need o i g inside at zeros w =
-    rw at
-    (⊎_elim
-    (λ (e : o ≡ w). rw (← e, eq-eqb o o refl) (get_or-set_same need o g 0 inside))
-    (λ (ne : o ≢ w).
-    rw (ne_eqb o w ne)
-    (get_or-set_other need o w g 0 (λ e. ne (sym e))
-    ∙ ⊎_elim (λ (l : w < length need). zeros w l) (λ (past : length need ≤ w). get_or_past need w 0 past) (cases_lt w (length need))))
-    (cases_eq o w))

@@ -1,9 +1,8 @@
 -- A push along one reach, as the code reads and writes it.
-use Rattle.std.proofs.Common.{◌≡◌, ℕ, ◌+◌, ◌-◌, ◌^◌, ◌<◌, ◌≤◌, min, Bool, true, false, ◌&&◌, eqb, ltb, ◌≢◌, List, length, get_or, set, sym, refl, ap, ◌∙◌, subst, arith}
-use Rattle.std.proofs.lemmas.List.{get_or_default, set-get_or}
-use Rattle.std.proofs.lemmas.Bool.{cond-true, cond-false, and_parts, eqb-true, eq-eqb}
+use Rattle.std.proofs.Common.{◌≡◌, ℕ, ◌+◌, ◌-◌, ◌^◌, ◌<◌, ◌≤◌, min, Bool, true, false, ◌&&◌, eqb, ◌≢◌, List, get_or, set, sym, ap, ◌∙◌, subst, arith}
+use Rattle.std.proofs.lemmas.List.{get_or_default}
+use Rattle.std.proofs.lemmas.Bool.{cond-true, cond-false, and_parts, eqb-true}
 use Rattle.scheme.specs.declared.rows.Reach.{Reach}
-use Rattle.scheme.specs.Bounds.{no_point}
 use Rattle.scheme.specs.Flow.{Points}
 use Rattle.scheme.specs.Questions.{Joined}
 use Rattle.scheme.specs.Scheme.{Scheme, no_reach, over, flowing, with_flow}
@@ -11,13 +10,6 @@ use Rattle.scheme.proofs.Writes.{changed_at}
 use Rattle.flows.specs.Push.{Needs, moved, pushed}
 use Rattle.solver.specs.PushSteps.{needs_of, earlier, pushed_at, ReachAsks}
 use Rattle.solver.proofs.NeedTables.{moved_to}
-
--- the test for an earlier point at the other end, if this end is the point
-pub earlier_read :
-    (place : List ℕ) (end v u i j : ℕ) → v < length place → u < length place → end ≡ v → i ≡ u → j ≡ v
-    → ltb (get_or place i 0) (get_or place j 0) ≡ (eqb end v && earlier place v u)
-earlier_read place end v u i j inside there here at-u at-v =
-    rw (eq-eqb end v here, at-u, at-v, get_or_default place u 0 no_point there, get_or_default place v 0 no_point inside) refl
 
 pub pushed_none :
     (x : Points) (v : ℕ) (r : Reach) (needs : Needs) → (eqb r.head v && x r.tail) ≡ false
@@ -82,19 +74,3 @@ module _ {s : Scheme} {place need : List ℕ} {v k : ℕ} {row : Reach} (asks : 
         ap (over s)
         (changed_at (flowing f) s.reaches k row asks.listed (read ∙ get_or_default s.reaches k no_reach row asks.listed)
         ∙ sym (ap (λ (p : Reach × Needs). set s.reaches k p.0) (at_row ∙ gets.is)))
-
-    pub gets_needs : moved a v u (needs_of need) ≡ (pushed_at s place need v k).1
-    gets_needs = sym (ap (λ (p : Reach × Needs). p.1) (at_row ∙ gets.is))
-
-  -- a reach that is left as it was
-  pub gets_none :
-      {on back : Bool} → on ≡ (eqb row.head v && earlier place v row.tail) → on ≡ false
-      → back ≡ (eqb row.tail v && earlier place v row.head) → back ≡ false
-      → pushed_at s place need v k ≡ (get_or s.reaches k no_reach, needs_of need)
-  gets_none is-on stays is-back rests =
-      at_row ∙ pushed_none (earlier place v) v row (needs_of need) (sym is-on ∙ stays) (sym is-back ∙ rests)
-      ∙ ap (λ (r : Reach). (r, needs_of need)) read
-
-pub none_flows :
-    (s : Scheme) (k : ℕ) (r : Reach) → r ≡ get_or s.reaches k no_reach → s ≡ over s (set s.reaches k r)
-none_flows s k r same = sym (ap (over s) (ap (set s.reaches k) same ∙ set-get_or s.reaches k no_reach))

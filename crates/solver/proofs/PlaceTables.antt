@@ -1,8 +1,8 @@
 -- The table of places tells which points are earlier in the order.
-use Rattle.std.proofs.Common.{◌≡◌, ℕ, zero, suc, ◌+◌, ◌<◌, ◌≤◌, true, false, ◌||◌, eqb, ltb, List, [], ◌∷◌, length, get_or, take, sym, ap, ◌∙◌, ⊎_elim, arith}
+use Rattle.std.proofs.Common.{◌≡◌, ℕ, zero, suc, ◌+◌, ◌<◌, ◌≤◌, true, false, ◌||◌, eqb, ltb, List, [], ◌∷◌, ◌++◌, length, get_or, take, sym, ap, ◌∙◌, ⊎_elim, arith, refl, length-append}
 use mathlib.Core.Path.{fun_ext}
 use Rattle.std.proofs.lemmas.List.FromFn.{get_or-map-range_with_len, length-map-range_with_len}
-use Rattle.std.proofs.lemmas.List.{get_or_past, take_all, take_more}
+use Rattle.std.proofs.lemmas.List.{get_or_at, get_or_past, take_all, take_at, take_more}
 use Rattle.std.proofs.lemmas.Bool.{cases_Bool, cases_lt, cond-true, cond-false, ltb-true, ltb-false, lt-ltb, le-ltb, or_left}
 use Rattle.scheme.specs.Bounds.{no_point}
 use Rattle.scheme.specs.Flow.{among}
@@ -78,3 +78,16 @@ module _ (order : List ℕ) (i : ℕ) (short : length order ≤ no_point) (withi
           ap (λ n. ltb n i) (get_or_past (places s order) u no_point (omega (arith, long)))
           ∙ le-ltb no_point i (omega arith) ∙ sym (stranger u (outside u past)))
           (cases_lt u s.points)
+
+-- the same where the order is known by the points before one and those after it
+pub earlier_split :
+    (s : Scheme) (order front later : List ℕ) (v : ℕ) → order ≡ front ++ v ∷ later → length order ≤ no_point
+    → ((u : ℕ) → among order u ≡ true → u < s.points) → v < s.points → among front v ≡ false
+    → earlier (places s order) v ≡ among front
+earlier_split s order front later v is short points inside once =
+    let n = length front in
+    let at = ap (λ ws. get_or ws n 0) is ∙ get_or_at front v later 0 n refl in
+    let taken = ap (take n) is ∙ take_at front (v ∷ later) n refl in
+    rw (at, taken) at
+    (earlier_points order n short (omega (arith, ap length is, length-append front (v ∷ later))) s points
+    (rw at inside) (rw (at, taken) once))

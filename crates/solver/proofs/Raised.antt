@@ -8,7 +8,6 @@ use Rattle.std.proofs.lemmas.Bool.Decides.{nat_tests}
 use Rattle.scheme.specs.declared.rows.Reach.{Reach}
 use Rattle.pick.specs.Calls.{greatest_key}
 use Rattle.scheme.specs.Scheme.{no_reach}
-use Rattle.scheme.specs.Flow.{left_on, left_back}
 use Rattle.pick.specs.Keys.{Keys, key_of, Outside}
 use Rattle.pick.specs.Calls.{after_raise}
 use Rattle.pick.proofs.Calls.{raise_done}
@@ -21,12 +20,6 @@ use Rattle.solver.proofs.Touching.{Untouched, next_is, next_none}
 -- ---- one reach
 
 module _ (u : ℕ) (r : Reach) where
-  pub at_tail : r.tail ≡ u → (other_end u r ≡ r.head) × (left_from_point u r ≡ left_on r)
-  at_tail e = let t = eq-eqb r.tail u e in (rw t refl, rw t refl)
-
-  pub at_head : (r.tail ≡ u → ⊥) → (other_end u r ≡ r.tail) × (left_from_point u r ≡ left_back r)
-  at_head ne = let t = ne_eqb r.tail u ne in (rw t refl, rw t refl)
-
   -- a reach that touches the point leads from it to the other end, and to no further point
   left_touched : (w : ℕ) → w ≢ u → touches u r ≡ true → left_to (eqb u) w r ≡ cond (eqb (other_end u r) w) (left_from_point u r) 0
   left_touched w ne touch = grind (arith, nat_tests)

@@ -6,11 +6,12 @@ use Rattle.scheme.specs.Scheme.{Scheme, emptied}
 use Rattle.solver.specs.declared.answers.Opened.{Opened}
 use Rattle.solver.specs.declared.answers.Rounded.{Rounded}
 use Rattle.solver.specs.declared.asks.Answer.{Answer}
+use Rattle.solver.specs.declared.asks.Answer.TheVariants.{OfRound}
 use Rattle.solver.specs.declared.asks.Call.{Call}
 use Rattle.solver.specs.declared.asks.Call.TheVariants.{Open, Limit, Round, Settle, Value, Cut}
 use Rattle.solver.specs.Answered.{Answered, Stepped, step_of}
-use Rattle.solver.specs.Calls.{OpenDoes}
-use Rattle.solver.specs.History.{View, Step, RoundSteps, DoesCall, Does, History, Ran}
+use Rattle.solver.specs.Calls.{OpenDoes, RoundDoes}
+use Rattle.solver.specs.History.{View, Step, put, gained_by, RoundSteps, DoesCall, Does, History, Ran}
 use Rattle.solver.specs.History.History.{done, then}
 use Rattle.solver.proofs.Histories.{stands_opened, histories_keep_the_law}
 use Rattle.solver.proofs.Standing.{stands_law}
@@ -54,6 +55,19 @@ answered_steps s t v w r made =
       };
       leaves = refl;
     }
+
+-- which rounds gained in a round goes by its answer
+pub round_answered :
+    (s t : Scheme) (v w : View) (r : Result Rounded CallFault) (a : Result Answer CallFault) → a ≡ put OfRound r
+    → w.call ≡ v.call → w.marks ≡ v.marks → RoundDoes s v.work v.keys r t w.work w.keys → Answered Round s v a t w
+round_answered s t v w (Ok told) a is call marks made =
+    record {
+      same_call = call;
+      gained = gained_by s made.works.order told.gain t;
+      does = (Ok told, (made, refl), is, marks);
+    }
+round_answered s t v w (Err fault) a is call marks does =
+    record { same_call = call; gained = []; does = (Err fault, (does, refl), is, marks) }
 
 -- ---- one after another
 

@@ -1,9 +1,9 @@
 -- The push back through the order, point by point, as the loop makes it.
-use Rattle.std.proofs.Common.{◌≡◌, ℕ, ◌+◌, ◌<◌, ◌≤◌, Bool, false, cond, eqb, ◌≢◌, List, [], ◌∷◌, reverse, length, get_or, take, sym, refl, ap, ◌∙◌, subst, ⊎_elim, arith}
+use Rattle.std.proofs.Common.{◌≡◌, ℕ, ◌-◌, ◌<◌, ◌≤◌, Bool, false, cond, eqb, ◌≢◌, List, [], ◌∷◌, ◌++◌, reverse, length, take, drop, sym, refl, ap, ◌∙◌, subst, ⊎_elim, arith}
 use mathlib.Core.Path.{fun_ext}
 use Rattle.std.specs.List.{AllZip, AllByRecursion}
 use Rattle.std.proofs.lemmas.List.FromFn.{fill_by_all, length-map-range_with_len}
-use Rattle.std.proofs.lemmas.List.{length-reverse, length-take-le, reverse-append, take_all, take_more}
+use Rattle.std.proofs.lemmas.List.{append_assoc, append-nil, length-drop, length-reverse, reverse-append, take_all}
 use Rattle.std.proofs.lemmas.Bool.{cases_eq, cond-true, cond-false, eq-eqb, ne_eqb}
 use Rattle.scheme.specs.declared.rows.Reach.{Reach}
 use Rattle.scheme.specs.Flow.{Points, Lawful, among}
@@ -23,7 +23,7 @@ use Rattle.flows.proofs.Steps.{Touched}
 use Rattle.flows.proofs.WholePush.{needs_within, push_raises, ready_rest, stage_pushes, stage_standing}
 use Rattle.solver.specs.PushSteps.{needs_of, earlier, pushed_point, PointAsks, OrderAsks}
 use Rattle.solver.specs.Work.{position, supply}
-use Rattle.solver.proofs.PlaceTables.{earlier_points}
+use Rattle.solver.proofs.PlaceTables.{earlier_split}
 
 stage_on :
     {s : Scheme} {order : List ℕ} {gain : ℕ} (v : ℕ) (todo : List ℕ) (rs : List Reach) (needs : Needs) → 0 < length todo
@@ -56,55 +56,65 @@ module _ {s : Scheme} {order keys : List ℕ} {gain : ℕ} (formed : WellFormed 
         bounded = needs_within s order keys gain formed lawful made some v w ws rs needs stage;
       }
 
--- where the loop stands while the first i points of the order are still to ask: t is the scheme and need the table
-pub record Staged (s : Scheme) (order : List ℕ) (gain i : ℕ) (t : Scheme) (need : List ℕ) : Type 0 where
-  pub some : 1 ≤ i
+-- where the loop stands while the inlet and these points after it are still to ask: t is the scheme and need the table
+pub record Staged (s : Scheme) (order : List ℕ) (gain : ℕ) (rest : List ℕ) (t : Scheme) (need : List ℕ) : Type 0 where
+  pub asked : List ℕ
+  pub all : order ≡ (s.inlet ∷ rest) ++ asked
   pub same : t ≡ over s t.reaches
-  pub stage : Stage s order gain (reverse (take i order)) t.reaches (needs_of need)
+  pub stage : Stage s order gain (reverse (s.inlet ∷ rest)) t.reaches (needs_of need)
 
 module _ {s : Scheme} {order place need : List ℕ} {gain : ℕ} (asks : OrderAsks s order place need gain) where
   fits : OrderFits s order asks.keys
   fits = orders_fit s order asks.keys gain asks.formed asks.made
 
   pub staged_none :
-      (first : List ℕ) → ((w : ℕ) → needs_of first w ≡ first_needs s gain w) → Staged s order gain (length order) s first
-  staged_none first zeros =
+      (first rest : List ℕ) → ((w : ℕ) → needs_of first w ≡ first_needs s gain w)
+      → rest ≡ take (length order - 1) (drop 1 order) → Staged s order gain rest s first
+  staged_none first rest zeros is =
+      let later = is ∙ take_all (length order - 1) (drop 1 order) (omega (arith, length-drop 1 order)) in
+      let whole : order ≡ s.inlet ∷ rest = fits.starts ∙ ap (λ ws. s.inlet ∷ ws) (ap (drop 1) (sym fits.starts) ∙ sym later) in
       record {
-        some = omega (arith, ap length fits.starts);
+        asked = [];
+        all = whole ∙ sym (append-nil (s.inlet ∷ rest));
         same = refl;
-        stage = rw (take_all (length order) order (omega arith), fun_ext zeros) begins;
+        stage =
+            subst (λ (f : Needs). Stage s order gain (reverse (s.inlet ∷ rest)) s.reaches f) (sym (fun_ext zeros))
+            (subst (λ ws. Stage s order gain (reverse ws) s.reaches (first_needs s gain)) whole begins);
       }
 
-  -- the point at i asks next
-  module _ {k : ℕ} {t : Scheme} {after : List ℕ} (now : Staged s order gain k t after) (i : ℕ) (is : k ≡ i + 1) (some : 1 ≤ i) (within : i < length order) where
-    rest : List ℕ
-    rest = reverse (take i order)
+  -- the last of them asks next
+  module _ {rest : List ℕ} {t : Scheme} {after : List ℕ} (now : Staged s order gain rest t after) (front : List ℕ) (v : ℕ) (is : rest ≡ front ++ v ∷ []) where
+    todo : List ℕ
+    todo = reverse (s.inlet ∷ front)
 
-    some_rest : 0 < length rest
-    unfolding rest
-    some_rest = omega (arith, length-reverse (take i order), length-take-le i order (omega arith))
+    some_todo : 0 < length todo
+    unfolding todo
+    some_todo = omega (arith, length-reverse (s.inlet ∷ front))
 
-    staged : Stage s order gain (get_or order i 0 ∷ rest) t.reaches (needs_of after)
-    unfolding rest
+    split : order ≡ (s.inlet ∷ front) ++ v ∷ now.asked
+    split = now.all ∙ ap (λ ws. (s.inlet ∷ ws) ++ now.asked) is ∙ append_assoc (s.inlet ∷ front) (v ∷ []) now.asked
+
+    staged : Stage s order gain (v ∷ todo) t.reaches (needs_of after)
+    unfolding todo
     staged =
-        let turned : reverse (take k order) ≡ get_or order i 0 ∷ reverse (take i order) = ap (λ n. reverse (take n order)) is ∙ ap reverse (take_more order i 0 within) ∙ reverse-append (take i order) (get_or order i 0 ∷ []) in
-        subst (λ todo. Stage s order gain todo t.reaches (needs_of after)) turned now.stage
+        let turned = ap (λ ws. reverse (s.inlet ∷ ws)) is ∙ reverse-append (s.inlet ∷ front) (v ∷ []) in
+        subst (λ ws. Stage s order gain ws t.reaches (needs_of after)) turned now.stage
 
-    asker : Asking s gain (get_or order i 0) rest t.reaches (needs_of after)
-    asker = asking asks.formed asks.lawful asks.made asks.some (get_or order i 0) rest t.reaches (needs_of after) some_rest staged
+    asker : Asking s gain v todo t.reaches (needs_of after)
+    asker = asking asks.formed asks.lawful asks.made asks.some v todo t.reaches (needs_of after) some_todo staged
 
-    same_points : among rest ≡ among (take i order)
-    unfolding rest
-    same_points = fun_ext (among_reverse (take i order))
+    same_points : among todo ≡ among (s.inlet ∷ front)
+    unfolding todo
+    same_points = fun_ext (among_reverse (s.inlet ∷ front))
 
-    before : earlier place (get_or order i 0) ≡ among rest
+    before : earlier place v ≡ among todo
     before =
-        ap (λ p. earlier p (get_or order i 0)) asks.placed
-        ∙ earlier_points order i (omega (arith, fits.short, asks.formed.few_points)) within s fits.points asker.inside
-        (sym (ap (λ (x : ℕ → Bool). x (get_or order i 0)) same_points) ∙ asker.once)
+        ap (λ p. earlier p v) asks.placed
+        ∙ earlier_split s order (s.inlet ∷ front) now.asked v split (omega (arith, fits.short, asks.formed.few_points))
+        fits.points asker.inside (sym (ap (λ (x : ℕ → Bool). x v) same_points) ∙ asker.once)
         ∙ sym same_points
 
-    pub point_asks : length after ≡ length need → PointAsks t place after (get_or order i 0)
+    pub point_asks : length after ≡ length need → PointAsks t place after v
     point_asks long =
         let points : t.points ≡ s.points = ap (λ (u : Scheme). u.points) now.same in
         let gains = (keys_within s asks.formed asks.lawful).gains order asks.keys gain asks.made in
@@ -119,37 +129,33 @@ module _ {s : Scheme} {order place need : List ℕ} {gain : ℕ} (asks : OrderAs
         }
 
     pub staged_more :
-        (u : Scheme) (later : List ℕ) → u ≡ over t (pushed_point t place after (get_or order i 0)).0
-        → needs_of later ≡ (pushed_point t place after (get_or order i 0)).1 → Staged s order gain i u later
-    unfolding rest
+        (u : Scheme) (later : List ℕ) → u ≡ over t (pushed_point t place after v).0
+        → needs_of later ≡ (pushed_point t place after v).1 → Staged s order gain front u later
+    unfolding todo
     staged_more u later flows needs =
-        let v = get_or order i 0 in
-        let on = stage_on v rest t.reaches (needs_of after) some_rest staged in
-        let all : pushed_point t place after v ≡ pushed_all (among rest) v t.reaches (needs_of after) = ap (λ (x : Points). pushed_all x v t.reaches (needs_of after)) before in
+        let on = stage_on v todo t.reaches (needs_of after) some_todo staged in
+        let all : pushed_point t place after v ≡ pushed_all (among todo) v t.reaches (needs_of after) = ap (λ (x : Points). pushed_all x v t.reaches (needs_of after)) before in
         let reaches = ap (λ (w : Scheme). w.reaches) flows ∙ ap (λ (p : List Reach × Needs). p.0) all in
         let asked = needs ∙ ap (λ (p : List Reach × Needs). p.1) all in
         record {
-          some = some;
-          same = flows ∙ ap (λ (w : Scheme). over w (pushed_point t place after (get_or order i 0)).0) now.same ∙ ap (λ (w : Scheme). over s w.reaches) (sym flows);
+          asked = v ∷ now.asked;
+          all = split;
+          same = flows ∙ ap (λ (w : Scheme). over w (pushed_point t place after v).0) now.same ∙ ap (λ (w : Scheme). over s w.reaches) (sym flows);
           stage =
-              subst (λ (f : Needs). Stage s order gain rest u.reaches f) (sym asked)
-              (subst (λ rs. Stage s order gain rest rs (pushed_all (among rest) v t.reaches (needs_of after)).1) (sym reaches) on);
+              subst (λ (f : Needs). Stage s order gain todo u.reaches f) (sym asked)
+              (subst (λ rs. Stage s order gain todo rs (pushed_all (among todo) v t.reaches (needs_of after)).1) (sym reaches) on);
         }
 
   -- only the inlet is left
   pub staged_all :
-      {k : ℕ} {t : Scheme} {after : List ℕ} → Staged s order gain k t after → k ≤ 1 → length after ≡ length need
-      → (t ≡ push s order gain) × (after ≡ supply s gain)
-  staged_all {k = k} {t = t} {after = after} now few long =
+      {rest : List ℕ} {t : Scheme} {after : List ℕ} → Staged s order gain rest t after → length rest ≡ 0
+      → length after ≡ length need → (t ≡ push s order gain) × (after ≡ supply s gain)
+  staged_all {rest = r ∷ rs} now few long = absurd (omega arith)
+  staged_all {rest = []} {t = t} {after = after} now few long =
       (now.same ∙ ap (λ (p : List Reach × Needs). over s p.0) whole, fill_by_all (λ v. cond (eqb v s.inlet) gain 0) after s.points 0 (long ∙ asks.asked) (λ v l. ap (λ (p : List Reach × Needs). p.1 v) whole ∙ supplied v))
     where
-      last : reverse (take k order) ≡ s.inlet ∷ []
-      last =
-          let one : k ≡ 1 = omega (arith, now.some) in
-          ap (λ n. reverse (take n order)) one ∙ ap (λ ws. reverse (take 1 ws)) fits.starts
-
       whole : ◌≡◌ {A = List Reach × Needs} (t.reaches, needs_of after) (push_along s order gain)
-      whole = stage_pushes s order gain (subst (λ todo. Stage s order gain todo t.reaches (needs_of after)) last now.stage)
+      whole = stage_pushes s order gain now.stage
 
       raised : Pushed s order gain
       raised = push_raises s order asks.keys gain asks.formed asks.lawful asks.made asks.some

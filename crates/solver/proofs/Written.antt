@@ -1,12 +1,14 @@
 -- The tables as they are written, point by point.
-use Rattle.std.proofs.Common.{◌≡◌, ℕ, ◌+◌, ◌-◌, ◌<◌, ◌≤◌, false, cond, eqb, ◌≢◌, List, [], ◌∷◌, ◌++◌, map, length, get_or, take, drop, set, sym, refl, ap, ◌∙◌, ⊎_elim, append_assoc, arith}
+use Rattle.std.proofs.Common.{◌≡◌, ℕ, ◌+◌, ◌-◌, ◌<◌, ◌≤◌, Bool, true, false, cond, eqb, ◌≢◌, List, [], ◌∷◌, ◌++◌, map, length, get_or, take, drop, replicate, set, sym, refl, ap, ◌∙◌, ⊎_elim, append_assoc, arith}
+use mathlib.Core.Path.{fun_ext}
 use Rattle.std.specs.List.{range_with_len}
-use Rattle.std.proofs.lemmas.List.FromFn.{length-map-range_with_len, get_or-map-range_with_len, map-range_with_len_more}
+use Rattle.std.proofs.lemmas.List.FromFn.{length-map-range_with_len, length-range_with_len, get_or-map-range_with_len, map-range_with_len_more}
 use Rattle.std.proofs.lemmas.List.{length_push, length-set, drop_more, drop-drop, drop_at, set_at, set-append_left, take_at, get_or-set_same, get_or-set_other, ext_get_or}
 use Rattle.std.proofs.lemmas.Bool.{cases_eq, eq-eqb, ne_eqb, or_parts}
+use Rattle.std.proofs.lemmas.Simd.{splat_is_map}
 use Rattle.scheme.specs.Scheme.{Scheme}
 use Rattle.scheme.specs.Flow.{among}
-use Rattle.solver.specs.Work.{written, position, places}
+use Rattle.solver.specs.Work.{written, position, places, supply}
 
 -- ---- a table written from its start on
 
@@ -39,6 +41,19 @@ filled_more f n x old within is =
     let filled = map f (range_with_len 0 n) in
     ap (set (written filled old) n) is ∙ written_more filled old n (f n) (sym (length-map-range_with_len f 0 n)) within
     ∙ ap (λ ps. written ps old) (sym (map-range_with_len_more f 0 n n (omega arith)))
+
+-- a table filled with one number
+pub replicated : (n x : ℕ) → replicate n x ≡ map (λ _. x) (range_with_len 0 n)
+replicated n x = splat_is_map (range_with_len 0 n) n x (length-range_with_len 0 n)
+
+-- with no gain nobody needs anything
+pub needs_none : (s : Scheme) (n gain : ℕ) → n ≡ s.points → gain ≡ 0 → replicate n 0 ≡ supply s gain
+needs_none s n gain all none =
+    rw (all, none) (replicated s.points 0 ∙ ap (λ f. map f (range_with_len 0 s.points)) (fun_ext (λ v. same (eqb v s.inlet))))
+  where
+    same : (b : Bool) → ◌≡◌ {A = ℕ} 0 (cond b 0 0)
+    same true = refl
+    same false = refl
 
 -- what stands at the start of a written table
 pub written_start : (new old : List ℕ) → take (length new) (written new old) ≡ new

@@ -47,6 +47,17 @@ pub record PointAsks (s : Scheme) (place need : List ℕ) (v : ℕ) : Type 0 whe
   pub fits :
       (count w : ℕ) → w < s.points → (pushed_all (earlier place v) v (take count s.reaches) (needs_of need)).1 w < 2 ^ 64
 
+-- what is taken for granted when a gain is pushed, if there is one: the tables hold an order that was made, and are long
+-- enough
+pub record GainAsks (s : Scheme) (order place need : List ℕ) (gain count : ℕ) : Type 0 where
+  pub formed : WellFormed s
+  pub lawful : Lawful s
+  pub keys : List ℕ
+  pub made : Made s (take count order) keys gain
+  pub listed : count ≤ length order
+  pub placed : take s.points place ≡ places s (take count order)
+  pub needed : s.points ≤ length need
+
 -- what is taken for granted when all points of an order ask, the latest first: the order is made and has a gain, and
 -- the tables are as long as there are points
 pub record OrderAsks (s : Scheme) (order place need : List ℕ) (gain : ℕ) : Type 0 where

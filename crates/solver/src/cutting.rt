@@ -1,19 +1,19 @@
 // The pinch: the least side whose capacity is the value of a greatest flow.
-ghost use Rattle.std.specs.Prelude.{◌≡◌, ◌≤◌, [], ◌∷◌, map, length, IfOk, if◌then◌else◌, Err, nat_eq, slice_index};
+ghost use Rattle.std.specs.Prelude.{◌≡◌, ◌≤◌, map, length, IfOk, if◌then◌else◌, Err, nat_eq, slice_index};
 ghost use Rattle.std.specs.List.{range_with_len};
 ghost use Rattle.scheme.specs.declared.faults.CallFault.TheVariants.{Gains};
 ghost use Rattle.scheme.specs.Bounds.{no_point};
 ghost use Rattle.scheme.specs.Marks.{marked};
-ghost use Rattle.solver.specs.Calls.{CutDoes, hold_all};
+ghost use Rattle.solver.specs.Calls.{CutDoes};
 ghost use Rattle.solver.specs.Laws.{LeastCut, StillAGap};
 ghost use Rattle.solver.specs.Work.{work_of, written};
 
-use crate::asking::{ask_ordering, tables_hold};
+use crate::asking::ask_ordering;
 use crate::ordering::make_ordering;
 use crate::placing::NO_PLACE;
 use crate::pushing::clear_needs;
 use pick::Pick;
-use scheme::{CallFault, Register, capacity_unasked};
+use scheme::{CallFault, Few, Register};
 
 // Makes an ordering. If it gains nothing, marks its points with 1 and the others with 0, and answers that side's
 // capacity; it refuses while there is a gain. It only reads, so any register will do.
@@ -33,8 +33,8 @@ pub fn cut<R: Register, P: Pick>(
     ensures law { IfOk result (LeastCut (R.scheme register.now) (marked marks.new)) }
     ensures gap { result ≡ Err Gains → StillAGap (R.scheme register.now) }
 {
-    let hold = all_hold(register, marks.len(), order.len(), place.len(), need.len());
-    ask_ordering(register, pick, hold)?;
+    let lengths = [marks.len(), order.len(), place.len(), need.len()];
+    ask_ordering(register, pick, &lengths)?;
     let points = register.points();
     let told = make_ordering(register, pick, order, place);
     clear_needs(need, points);
@@ -42,21 +42,7 @@ pub fn cut<R: Register, P: Pick>(
         return Err(CallFault::Gains);
     }
     mark_placed(marks, place, points);
-    // a register that was asked has few enough reaches, so there is a capacity
-    Ok(capacity_unasked(register, marks).unwrap_or(0))
-}
-
-// Do the marks and the three tables, of these lengths, hold an entry for each point?
-fn all_hold<R: Register>(
-    register: &R,
-    marks: usize,
-    order: usize,
-    place: usize,
-    need: usize,
-) -> bool
-    ensures { result ≡ hold_all (R.scheme register.now).points (marks ∷ order ∷ place ∷ need ∷ []) }
-{
-    usize::from(register.points()) <= marks && tables_hold(register, order, place, need)
+    Ok(Few { register }.capacity(marks))
 }
 
 // Marks each of the first `points` points with 1 if it has a place in the order, and with 0 if it has none.
@@ -67,8 +53,7 @@ fn mark_placed(marks: &mut [u8], place: &[u16], points: u16)
         ≡ written (map (λ v. (if nat_eq (slice_index place.now v) no_point then 0 else 1)) (range_with_len 0 points))
         marks.old }
 {
-    for point in 0..points {
-        let at = usize::from(point);
-        marks[at] = if place[at] == NO_PLACE { 0 } else { 1 };
+    for (point, place) in place[..usize::from(points)].iter().enumerate() {
+        marks[point] = u8::from(*place != NO_PLACE);
     }
 }

@@ -1,5 +1,7 @@
 // The calls that need no ordering: open, limit and value.
 ghost use Rattle.std.specs.Prelude.{◌≡◌, IfOk, slice_index_or};
+ghost use Rattle.std.specs.List.{slice_get};
+ghost use Rattle.std.specs.Option.{option_map};
 ghost use Rattle.scheme.specs.Questions.{first_no};
 ghost use Rattle.scheme.specs.Refusals.{call_refusal, refusal_of};
 ghost use Rattle.scheme.specs.Scheme.{no_reach};
@@ -40,18 +42,22 @@ fn ask_limit<R: Register>(register: &R, reach: usize, limit: u32) -> Result<u32,
     ensures old { IfOk result (λ x. x ≡ (slice_index_or (R.scheme register.now).reaches reach no_reach).limit) }
 {
     ask_book(register)?;
-    if reach >= register.reaches() {
+    let Some((old, flow)) = limit_and_flow(register, reach) else {
         return Err(CallFault::NoSuchReach);
-    }
+    };
     if limit > GREATEST_LIMIT {
         return Err(CallFault::LimitTooGreat);
     }
-    // the reach is in the list, so neither field is absent
-    let flow = register.flow(reach).unwrap_or(0);
     if limit < flow {
         return Err(CallFault::LimitUnderFlow);
     }
-    Ok(register.limit(reach).unwrap_or(0))
+    Ok(old)
+}
+
+fn limit_and_flow<R: Register>(register: &R, reach: usize) -> Option<(u32, u32)>
+    ensures { result ≡ option_map (λ r. (r.limit, r.flow)) (slice_get (R.scheme register.now).reaches reach) }
+{
+    Some((register.limit(reach)?, register.flow(reach)?))
 }
 
 // Answers the value of the flow, signed.

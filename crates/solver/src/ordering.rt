@@ -1,11 +1,12 @@
 // The ordering of one round: the inlet first, and then each time a point with the greatest key from those before it.
-ghost use Rattle.std.specs.Prelude.{◌≡◌, ◌≤◌, [], ◌∷◌, length};
-ghost use Rattle.scheme.specs.Flow.{Lawful, among};
+ghost use Rattle.std.specs.Prelude.{◌≡◌, ◌≤◌, [], ◌∷◌};
+ghost use Rattle.scheme.specs.Flow.{among};
 ghost use Rattle.scheme.specs.Questions.{WellFormed};
 ghost use Rattle.pick.specs.Calls.{started};
 ghost use Rattle.pick.specs.Keys.{size};
 ghost use Rattle.solver.specs.Orders.{OrderingMade, OrderBegun};
 ghost use Rattle.solver.specs.Raises.{HoldsKeys};
+ghost use Rattle.solver.specs.Ready.{ReadyToOrder};
 
 use crate::answers::Rounded;
 use crate::placing::{clear_places, enter_point};
@@ -21,12 +22,8 @@ pub(crate) fn make_ordering<R: Register, P: Pick>(
     order: &mut [u16],
     place: &mut [u16],
 ) -> Rounded
-    requires formed { WellFormed (R.scheme register.now) }
-    requires lawful { Lawful (R.scheme register.now) }
-    requires listed { (R.scheme register.now).points ≤ length order.old }
-    requires placed { (R.scheme register.now).points ≤ length place.old }
+    requires ready { ReadyToOrder (R.scheme register.now) order.old place.old (P.held pick.old) }
     requires begun { P.held pick.old ≡ started (size (P.held pick.old)) (R.scheme register.now).points }
-    requires room { (R.scheme register.now).points ≤ size (P.held pick.old) }
     ensures made { OrderingMade (R.scheme register.now) order.old place.old
         result.gain result.length order.new place.new }
     ensures size { size (P.held pick.new) ≡ size (P.held pick.old) }
@@ -49,8 +46,7 @@ fn take_inlet<R: Register, P: Pick>(register: &R, pick: &mut P) -> u16
 {
     // no other key is above 0, so the raise is not refused and the inlet is the one that is taken
     let _ = pick.raise(register.inlet(), GREATEST_KEY);
-    let (point, _) = take_greatest(pick);
-    point
+    take_greatest(pick).0
 }
 
 // Takes one point after another behind the inlet, up to the outlet or until nothing is left to any point outside.
@@ -60,10 +56,7 @@ fn take_the_rest<R: Register, P: Pick>(
     order: &mut [u16],
     place: &mut [u16],
 ) -> Rounded
-    requires formed { WellFormed (R.scheme register.now) }
-    requires lawful { Lawful (R.scheme register.now) }
-    requires listed { (R.scheme register.now).points ≤ length order.old }
-    requires placed { (R.scheme register.now).points ≤ length place.old }
+    requires ready { ReadyToOrder (R.scheme register.now) order.old place.old (P.held pick.old) }
     requires begun { OrderBegun (R.scheme register.now) order.old place.old (P.held pick.old) }
     ensures made { OrderingMade (R.scheme register.now) order.old place.old
         result.gain result.length order.new place.new }
@@ -71,27 +64,25 @@ fn take_the_rest<R: Register, P: Pick>(
 {
     let outlet = register.outlet();
     let mut last = register.inlet();
-    let mut count: u16 = 1;
+    let mut length: u16 = 1;
     // no key passes the greatest
     let mut least = GREATEST_KEY;
-    'points: loop {
+    let gain = 'points: loop {
         raise_neighbours(register, pick, last);
         let (point, key) = take_greatest(pick);
         if key == 0 {
-            return Rounded {
-                gain: 0,
-                length: usize::from(count),
-            };
+            break 0;
         }
-        enter_point(order, place, point, count);
-        count += 1;
+        enter_point(order, place, point, length);
+        length += 1;
         least = least.min(key);
         if point == outlet {
-            return Rounded {
-                gain: least,
-                length: usize::from(count),
-            };
+            break least;
         }
         last = point;
+    };
+    Rounded {
+        gain,
+        length: usize::from(length),
     }
 }

@@ -1,7 +1,7 @@
 // The tables that an ordering writes: the points in their order, and the place of each point in it.
-ghost use Rattle.std.specs.Prelude.{◌≡◌, ◌<◌, ◌≤◌, [], map, length, slice_set};
-ghost use Rattle.std.specs.List.{range_with_len};
-ghost use Rattle.solver.specs.Work.{written, position};
+ghost use Rattle.std.specs.Prelude.{◌≡◌, ◌<◌, ◌≤◌, length, replicate, slice_set};
+ghost use Rattle.scheme.specs.Bounds.{no_point};
+ghost use Rattle.solver.specs.Work.{written};
 
 // what stands at a point that is not in the order
 pub(crate) const NO_PLACE: u16 = 65_535;
@@ -9,11 +9,9 @@ pub(crate) const NO_PLACE: u16 = 65_535;
 // Writes that none of the first `points` points is in the order.
 pub(crate) fn clear_places(place: &mut [u16], points: u16)
     requires { points ≤ length place.old }
-    ensures { place.new ≡ written (map (position 0 []) (range_with_len 0 points)) place.old }
+    ensures { place.new ≡ written (replicate points no_point) place.old }
 {
-    for point in 0..points {
-        place[usize::from(point)] = NO_PLACE;
-    }
+    place[..usize::from(points)].fill(NO_PLACE);
 }
 
 // Writes a point into the order at a position, and the position as the point's place.

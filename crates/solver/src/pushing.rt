@@ -1,40 +1,40 @@
 // The push of one round: back through the order, every point asks the earlier ones for the water that it needs.
-ghost use Rattle.std.specs.Prelude.{◌≡◌, ℕ, ◌+◌, ◌^◌, ◌<◌, ◌≤◌, min, ◌&&◌, ◌≢◌, List, map, length, take, if◌then◌else◌, ◌==◌, nat_eq, slice_index_or, slice_set};
-ghost use Rattle.std.specs.List.{range_with_len};
-ghost use Rattle.scheme.specs.Flow.{Lawful};
-ghost use Rattle.scheme.specs.Questions.{WellFormed};
-ghost use Rattle.scheme.specs.Scheme.{no_reach, over};
-ghost use Rattle.flows.specs.Ordering.{Made};
+ghost use Rattle.std.specs.Prelude.{◌≡◌, ℕ, ◌+◌, ◌^◌, ◌<◌, ◌≤◌, cond, ◌&&◌, ◌≢◌, length, replicate, take, if◌then◌else◌, ◌==◌, nat_eq, slice_set};
+ghost use Rattle.scheme.specs.Scheme.{over};
 ghost use Rattle.flows.specs.Push.{moved, push};
-ghost use Rattle.solver.specs.PushSteps.{needs_of, earlier, pushed_at, ReachAsks, pushed_point, PointAsks, OrderAsks};
-ghost use Rattle.solver.specs.Work.{places, supply, written};
+ghost use Rattle.solver.specs.PushSteps.{needs_of, earlier, pushed_at, ReachAsks, pushed_point, PointAsks, OrderAsks, GainAsks};
+ghost use Rattle.solver.specs.Work.{supply, written};
 
-use crate::joining::next_touching;
-use scheme::{Book, Reach, Register};
+use crate::answers::Rounded;
+use crate::joining::{next_touching, read_reach};
+use scheme::Book;
 
-// Pushes the gain along the order: afterwards no point needs anything but the inlet, which has to supply the gain.
-pub(crate) fn push_along<B: Book>(
+// Pushes the gain along the order, if there is one: afterwards no point needs anything but the inlet, which has to
+// supply the gain. Without one nobody needs anything.
+pub(crate) fn push_gain<B: Book>(
     book: &mut B,
     order: &[u16],
     place: &[u16],
     need: &mut [u64],
-    gain: u64,
+    told: Rounded,
 )
-    requires formed { WellFormed (B.scheme book.old) }
-    requires lawful { Lawful (B.scheme book.old) }
-    requires made { (keys : List ℕ) × Made (B.scheme book.old) order.now keys gain }
-    requires some { 0 < gain }
-    requires placed { take (B.scheme book.old).points place.now
-        ≡ places (B.scheme book.old) order.now }
-    requires room { (B.scheme book.old).points ≤ length need.old }
-    ensures flows { B.scheme book.new
-        ≡ push (B.scheme book.old) order.now gain }
+    requires { GainAsks (B.scheme book.old) order.now place.now need.old
+        told.gain told.length }
+    ensures flows { B.scheme book.new ≡ cond (told.gain == 0)
+        (B.scheme book.old)
+        (push (B.scheme book.old) (take told.length order.now) told.gain) }
     ensures need { need.new
-        ≡ written (supply (B.scheme book.old) gain) need.old }
+        ≡ written (supply (B.scheme book.old) told.gain) need.old }
     ensures kept { B.kept book.new ≡ B.kept book.old }
 {
-    let points = usize::from(book.points());
-    push_order(book, order, &place[..points], &mut need[..points], gain);
+    let Rounded { gain, length } = told;
+    if gain == 0 {
+        clear_needs(need, book.points());
+    } else {
+        let points = usize::from(book.points());
+        let order = &order[..length];
+        push_order(book, order, &place[..points], &mut need[..points], gain);
+    }
 }
 
 // Back through the order, from the outlet to the point after the inlet. The tables are as long as there are points.
@@ -46,8 +46,8 @@ fn push_order<B: Book>(book: &mut B, order: &[u16], place: &[u16], need: &mut [u
     ensures kept { B.kept book.new ≡ B.kept book.old }
 {
     first_needs(need, book.outlet(), gain);
-    for turn in (1..order.len()).rev() {
-        push_point(book, place, need, order[turn]);
+    for point in order[1..].iter().rev() {
+        push_point(book, place, need, *point);
     }
 }
 
@@ -56,20 +56,17 @@ fn first_needs(need: &mut [u64], outlet: u16, gain: u64)
     requires { outlet < length need.old }
     ensures { (w : ℕ) → needs_of need.new w ≡ (if nat_eq outlet w then gain else 0) }
 {
-    for slot in need.iter_mut() {
-        *slot = 0;
-    }
+    need.fill(0);
     need[usize::from(outlet)] = gain;
 }
 
-// Nobody needs anything: 0 at each of the first `points` points.
+// Nobody needs anything: 0 at each of the first `points` points. It is not one function with the clearing of places: of
+// a clone at a type parameter it is not known that it is the same number.
 pub(crate) fn clear_needs(need: &mut [u64], points: u16)
     requires { points ≤ length need.old }
-    ensures { need.new ≡ written (map (λ _. 0) (range_with_len 0 points)) need.old }
+    ensures { need.new ≡ written (replicate points 0) need.old }
 {
-    for point in 0..points {
-        need[usize::from(point)] = 0;
-    }
+    need[..usize::from(points)].fill(0);
 }
 
 // The point asks along all its reaches, in number order.
@@ -101,26 +98,14 @@ fn push_reach<B: Book>(book: &mut B, place: &[u16], need: &mut [u64], point: u16
 {
     let row = read_reach(&*book, reach);
     if comes_from_earlier(place, point, row.head, row.tail) {
-        let taken = smaller(need[usize::from(point)], row.limit - row.flow);
+        let taken = need[usize::from(point)].min(u64::from(row.limit - row.flow)) as u32;
         move_need(need, point, row.tail, taken);
         // the reach is in the list, so no write is refused
         let _ = book.set_flow(reach, row.flow + taken);
     } else if comes_from_earlier(place, point, row.tail, row.head) {
-        let taken = smaller(need[usize::from(point)], row.flow);
+        let taken = need[usize::from(point)].min(u64::from(row.flow)) as u32;
         move_need(need, point, row.head, taken);
         let _ = book.set_flow(reach, row.flow - taken);
-    }
-}
-
-fn read_reach<R: Register>(register: &R, reach: usize) -> Reach
-    ensures { result ≡ slice_index_or (R.scheme register.now).reaches reach no_reach }
-{
-    // an absent field stands for 0: the caller asks only of reaches that are in the list
-    Reach {
-        tail: register.tail(reach).unwrap_or(0),
-        head: register.head(reach).unwrap_or(0),
-        limit: register.limit(reach).unwrap_or(0),
-        flow: register.flow(reach).unwrap_or(0),
     }
 }
 
@@ -130,16 +115,6 @@ fn comes_from_earlier(place: &[u16], point: u16, end: u16, other: u16) -> bool
     ensures { result ≡ (end == point && earlier place.now point other) }
 {
     end == point && place[usize::from(other)] < place[usize::from(point)]
-}
-
-fn smaller(needed: u64, left: u32) -> u32
-    ensures { result ≡ min needed left }
-{
-    if needed < u64::from(left) {
-        needed as u32
-    } else {
-        left
-    }
 }
 
 // An amount that the point needed is now needed at another.

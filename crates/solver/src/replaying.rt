@@ -39,7 +39,8 @@ fn make_call<B: Book, P: Pick>(book: &mut B, ask: &mut Ask<P>)
     ask.answer = Some(answer);
 }
 
-// Makes one call. The match is its last step, so that what was done in an arm is not lost where the arms meet.
+// Makes one call. A list of calls is data, so which call it is is asked here; the match is the last step, so that what
+// was done in an arm is not lost where the arms meet.
 fn answer_call<B: Book, P: Pick>(book: &mut B, ask: &mut Ask<P>) -> Result<Answer, CallFault>
     ensures does { Answered ask.old.call
         (B.scheme book.old) (view_of P.held ask.old) result
@@ -62,8 +63,7 @@ fn call_open<B: Book, P: Pick>(book: &mut B, ask: &Ask<P>) -> Result<Answer, Cal
         (B.scheme book.new) (view_of P.held ask.now) }
     ensures kept { B.kept book.new ≡ B.kept book.old }
 {
-    let told = open(book)?;
-    Ok(Answer::OfOpen(told))
+    open(book).map(Answer::OfOpen)
 }
 
 fn call_limit<B: Book, P: Pick>(
@@ -77,8 +77,7 @@ fn call_limit<B: Book, P: Pick>(
         (B.scheme book.new) (view_of P.held ask.now) }
     ensures kept { B.kept book.new ≡ B.kept book.old }
 {
-    let old = limit(book, reach, most)?;
-    Ok(Answer::OfLimit(old))
+    limit(book, reach, most).map(Answer::OfLimit)
 }
 
 fn call_round<B: Book, P: Pick>(book: &mut B, ask: &mut Ask<P>) -> Result<Answer, CallFault>
@@ -87,14 +86,14 @@ fn call_round<B: Book, P: Pick>(book: &mut B, ask: &mut Ask<P>) -> Result<Answer
         (B.scheme book.new) (view_of P.held ask.new) }
     ensures kept { B.kept book.new ≡ B.kept book.old }
 {
-    let told = round(
+    round(
         book,
         &mut ask.pick,
         ask.order.as_mut_slice(),
         ask.place.as_mut_slice(),
         ask.need.as_mut_slice(),
-    )?;
-    Ok(Answer::OfRound(told))
+    )
+    .map(Answer::OfRound)
 }
 
 fn call_settle<B: Book, P: Pick>(book: &mut B, ask: &mut Ask<P>) -> Result<Answer, CallFault>
@@ -103,14 +102,14 @@ fn call_settle<B: Book, P: Pick>(book: &mut B, ask: &mut Ask<P>) -> Result<Answe
         (B.scheme book.new) (view_of P.held ask.new) }
     ensures kept { B.kept book.new ≡ B.kept book.old }
 {
-    let told = settle(
+    settle(
         book,
         &mut ask.pick,
         ask.order.as_mut_slice(),
         ask.place.as_mut_slice(),
         ask.need.as_mut_slice(),
-    )?;
-    Ok(Answer::OfSettle(told))
+    )
+    .map(Answer::OfSettle)
 }
 
 fn call_value<B: Book, P: Pick>(book: &B, ask: &Ask<P>) -> Result<Answer, CallFault>
@@ -118,8 +117,7 @@ fn call_value<B: Book, P: Pick>(book: &B, ask: &Ask<P>) -> Result<Answer, CallFa
         (B.scheme book.now) (view_of P.held ask.now) result
         (B.scheme book.now) (view_of P.held ask.now) }
 {
-    let flow = value(book)?;
-    Ok(Answer::OfValue(flow))
+    value(book).map(Answer::OfValue)
 }
 
 fn call_cut<B: Book, P: Pick>(book: &B, ask: &mut Ask<P>) -> Result<Answer, CallFault>
@@ -127,13 +125,13 @@ fn call_cut<B: Book, P: Pick>(book: &B, ask: &mut Ask<P>) -> Result<Answer, Call
         (B.scheme book.now) (view_of P.held ask.old) result
         (B.scheme book.now) (view_of P.held ask.new) }
 {
-    let capacity = cut(
+    cut(
         book,
         &mut ask.pick,
         ask.order.as_mut_slice(),
         ask.place.as_mut_slice(),
         ask.need.as_mut_slice(),
         ask.marks.as_mut_slice(),
-    )?;
-    Ok(Answer::OfCut(capacity))
+    )
+    .map(Answer::OfCut)
 }

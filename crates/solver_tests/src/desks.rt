@@ -3,6 +3,7 @@ use pick::Pick;
 use scheme::{Book, CallFault, Register};
 use solver::answers::{Rounded, Settled};
 use std::alloc::{AllocError, Global};
+use std::fmt::Debug;
 use std::process::Abort;
 use std::test::*;
 
@@ -79,26 +80,14 @@ impl<P: Pick> Desk<P> {
 }
 
 // The table begins so, and is as it was from there on.
-pub(crate) fn begins_with(rt: &impl Abort, table: &[u8], begin: &[u8]) -> Result<(), Fail> {
+pub(crate) fn begins_with<T: Copy + Drop + PartialEq + Debug + From<u8>>(
+    rt: &impl Abort,
+    table: &[T],
+    begin: &[T],
+) -> Result<(), Fail> {
     assert!(rt; begin.len() <= table.len());
     for (i, entry) in table.iter().enumerate() {
-        assert_eq!(rt; *entry, begin.get(i).copied().unwrap_or(OLD));
-    }
-    Ok(())
-}
-
-pub(crate) fn short_begins_with(rt: &impl Abort, table: &[u16], begin: &[u16]) -> Result<(), Fail> {
-    assert!(rt; begin.len() <= table.len());
-    for (i, entry) in table.iter().enumerate() {
-        assert_eq!(rt; *entry, begin.get(i).copied().unwrap_or(u16::from(OLD)));
-    }
-    Ok(())
-}
-
-pub(crate) fn needs_begin_with(rt: &impl Abort, table: &[u64], begin: &[u64]) -> Result<(), Fail> {
-    assert!(rt; begin.len() <= table.len());
-    for (i, entry) in table.iter().enumerate() {
-        assert_eq!(rt; *entry, begin.get(i).copied().unwrap_or(u64::from(OLD)));
+        assert_eq!(rt; *entry, begin.get(i).copied().unwrap_or(T::from(OLD)));
     }
     Ok(())
 }

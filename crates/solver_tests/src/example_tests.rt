@@ -1,6 +1,6 @@
 // The example of four points, call by call, over a table and over a file in place, with either pick.
-use crate::desks::{Desk, flows_are, make_desk, needs_begin_with, short_begins_with};
-use crate::examples::{EXAMPLE_FILE, example};
+use crate::desks::{Desk, begins_with, flows_are, make_desk};
+use crate::examples::EXAMPLE_FILE;
 use pick::{Pick, Scan};
 use scheme::{Book, CallFault};
 use scheme_file::{SchemeFile, read};
@@ -8,6 +8,7 @@ use solver::answers::{Opened, Rounded, Settled};
 use solver::{limit, open, value};
 use std::process::Abort;
 use std::test::*;
+use worked_examples::example;
 
 // Two rounds gain 5 and 3; cut refuses before the second.
 fn rounds<B: Book, P: Pick>(rt: &impl Abort, book: &mut B, desk: &mut Desk<P>) -> Result<(), Fail> {
@@ -20,11 +21,11 @@ fn rounds<B: Book, P: Pick>(rt: &impl Abort, book: &mut B, desk: &mut Desk<P>) -
     );
     assert_eq!(rt; desk.round(book), Ok(Rounded { gain: 5, length: 4 }));
     flows_are(rt, book, &[2, 3, 0, 2, 3])?;
-    short_begins_with(rt, desk.order.as_slice(), &[0, 1, 2, 3])?;
-    short_begins_with(rt, desk.place.as_slice(), &[0, 1, 2, 3])?;
-    needs_begin_with(rt, desk.need.as_slice(), &[5, 0, 0, 0])?;
+    begins_with(rt, desk.order.as_slice(), &[0, 1, 2, 3])?;
+    begins_with(rt, desk.place.as_slice(), &[0, 1, 2, 3])?;
+    begins_with(rt, desk.need.as_slice(), &[5, 0, 0, 0])?;
     assert_eq!(rt; desk.cut(book), Err(CallFault::Gains));
-    needs_begin_with(rt, desk.need.as_slice(), &[0, 0, 0, 0])?;
+    begins_with(rt, desk.need.as_slice(), &[0, 0, 0, 0])?;
     assert_eq!(rt; desk.round(book), Ok(Rounded { gain: 3, length: 4 }));
     flows_are(rt, book, &[4, 4, 2, 2, 6])?;
     assert_eq!(rt; value(book), Ok(8));
@@ -46,9 +47,9 @@ fn settled<B: Book, P: Pick>(
         })
     );
     flows_are(rt, book, &[4, 4, 2, 2, 6])?;
-    short_begins_with(rt, desk.order.as_slice(), &[0, 1, 2, 3])?;
-    short_begins_with(rt, desk.place.as_slice(), &[0, 1, 2, 65_535])?;
-    needs_begin_with(rt, desk.need.as_slice(), &[0, 0, 0, 0])?;
+    begins_with(rt, desk.order.as_slice(), &[0, 1, 2, 3])?;
+    begins_with(rt, desk.place.as_slice(), &[0, 1, 2, 65_535])?;
+    begins_with(rt, desk.need.as_slice(), &[0, 0, 0, 0])?;
     desk.cuts(rt, book, 8, &[1, 1, 1, 0])
 }
 

@@ -1,5 +1,4 @@
 // A list of calls, each with its own tables and pick, run as one.
-use crate::examples::example;
 use pick::Scan;
 use scheme::CallFault;
 use solver::answers::{Opened, Rounded, Settled};
@@ -7,6 +6,7 @@ use solver::asks::{Answer, Ask, Call};
 use solver::replay;
 use std::alloc::{AllocError, Global};
 use std::test::*;
+use worked_examples::example;
 
 fn ask(heap: Global, call: Call) -> Result<Ask<Scan>, AllocError> {
     Ok(Ask {

@@ -1,6 +1,6 @@
 // The calls over piles of layers.
 use crate::desks::{flows_are, make_desk};
-use crate::examples::{EXAMPLE_FILE, example};
+use crate::examples::EXAMPLE_FILE;
 use layers::{Junction, Turned};
 use pick::Scan;
 use scheme::Book;
@@ -9,6 +9,7 @@ use solver::{limit, open};
 use std::alloc::Global;
 use std::process::Abort;
 use std::test::*;
+use worked_examples::example;
 
 // The widened example turned round: the pinch is at its inlet, which is point 3.
 fn turned<B: Book + Drop>(rt: &impl Abort, heap: Global, below: B) -> Result<(), Fail> {

@@ -1,17 +1,22 @@
 // Each refusal at its bound and in its turn, with book, tables and pick as they were.
-use crate::desks::{Desk, begins_with, flows_are, make_desk, needs_begin_with, short_begins_with};
-use crate::examples::{example, table};
+use crate::desks::{Desk, begins_with, flows_are, make_desk};
 use pick::{Pick, Scan};
 use scheme::{CallFault, Layer, Reach, Refusal, Table};
 use solver::{limit, open};
 use std::process::Abort;
 use std::test::*;
+use worked_examples::{example, table};
+
+// A reach with more flow than its limit.
+const OVER: Reach = Reach {
+    tail: 0,
+    head: 1,
+    limit: 1,
+    flow: 2,
+};
 
 fn told<X: Drop>(answer: Result<X, CallFault>) -> Option<Refusal> {
-    match answer {
-        Ok(_) => None,
-        Err(fault) => Some(fault.refusal()),
-    }
+    answer.err().map(Refusal::from)
 }
 
 fn refused(layer: Layer, number: u16, place: usize) -> Option<Refusal> {
@@ -24,9 +29,9 @@ fn refused(layer: Layer, number: u16, place: usize) -> Option<Refusal> {
 
 // Nothing was written into a table, and the pick still holds the one point that it was given.
 fn untouched(rt: &impl Abort, desk: &mut Desk<Scan>) -> Result<(), Fail> {
-    short_begins_with(rt, desk.order.as_slice(), &[])?;
-    short_begins_with(rt, desk.place.as_slice(), &[])?;
-    needs_begin_with(rt, desk.need.as_slice(), &[])?;
+    begins_with(rt, desk.order.as_slice(), &[])?;
+    begins_with(rt, desk.place.as_slice(), &[])?;
+    begins_with(rt, desk.need.as_slice(), &[])?;
     begins_with(rt, desk.marks.as_slice(), &[])?;
     assert_eq!(rt; desk.pick.take(), Some((1, 3)));
     given_a_point(desk)
@@ -57,19 +62,13 @@ fn refuse(
 #[test]
 fn books_and_tables(rt: HostRuntime) -> Result<(), Fail> {
     let heap = rt.alloc();
-    let over = Reach {
-        tail: 0,
-        head: 1,
-        limit: 1,
-        flow: 2,
-    };
     let mut short = make_desk(heap, Scan::new(), 1)?;
     given_a_point(&mut short)?;
     let mut bad = Table::new(1, 0, 1, Vec::new(heap));
     refuse(&rt, &mut bad, &mut short, refused(Layer::Book, 6, 0))?;
-    let mut loose = table(heap, 2, 1, &[(0, 1, 1), (0, 0, 1)])?;
+    let mut loose = table(heap, 2, 0, 1, &[(0, 1, 1), (0, 0, 1)])?;
     refuse(&rt, &mut loose, &mut short, refused(Layer::Book, 7, 1))?;
-    let mut full = Table::new(2, 0, 1, vec![in heap; over]?);
+    let mut full = Table::new(2, 0, 1, vec![in heap; OVER]?);
     refuse(&rt, &mut full, &mut short, refused(Layer::Book, 8, 0))?;
     let mut good = example(heap)?;
     refuse(&rt, &mut good, &mut short, refused(Layer::Call, 10, 0))?;
@@ -115,16 +114,10 @@ fn limits(rt: HostRuntime) -> Result<(), Fail> {
 #[test]
 fn opening(rt: HostRuntime) -> Result<(), Fail> {
     let heap = rt.alloc();
-    let over = Reach {
-        tail: 0,
-        head: 1,
-        limit: 1,
-        flow: 2,
-    };
-    let mut full = Table::new(2, 0, 1, vec![in heap; over]?);
+    let mut full = Table::new(2, 0, 1, vec![in heap; OVER]?);
     assert_eq!(rt; told(open(&mut full)), None);
     flows_are(&rt, &full, &[0])?;
-    let mut none = Table::new(513, 0, 1, vec![in heap; over]?);
+    let mut none = Table::new(513, 0, 1, vec![in heap; OVER]?);
     assert_eq!(rt; told(open(&mut none)), refused(Layer::Book, 6, 0));
     flows_are(&rt, &none, &[2])
 }

@@ -1,16 +1,17 @@
 // Small schemes with one thing each.
 use crate::desks::{flows_are, make_desk};
-use crate::examples::{DIAMOND, table};
+use crate::examples::DIAMOND;
 use pick::Scan;
 use scheme::{Reach, Register, Table};
 use solver::answers::{Rounded, Settled};
 use solver::{open, value};
 use std::test::*;
+use worked_examples::table;
 
 #[test]
 fn no_reach(rt: HostRuntime) -> Result<(), Fail> {
     let heap = rt.alloc();
-    let mut book = table(heap, 2, 1, &[])?;
+    let mut book = table(heap, 2, 0, 1, &[])?;
     let mut desk = make_desk(heap, Scan::new(), 2)?;
     assert_eq!(rt;
         desk.settle(&mut book),
@@ -26,7 +27,7 @@ fn no_reach(rt: HostRuntime) -> Result<(), Fail> {
 #[test]
 fn twins(rt: HostRuntime) -> Result<(), Fail> {
     let heap = rt.alloc();
-    let mut book = table(heap, 2, 1, &[(0, 1, 3), (0, 1, 4)])?;
+    let mut book = table(heap, 2, 0, 1, &[(0, 1, 3), (0, 1, 4)])?;
     let mut desk = make_desk(heap, Scan::new(), 2)?;
     assert_eq!(rt; desk.round(&mut book), Ok(Rounded { gain: 7, length: 2 }));
     flows_are(&rt, &book, &[3, 4])
@@ -54,7 +55,7 @@ fn water_back_into_the_inlet(rt: HostRuntime) -> Result<(), Fail> {
 #[test]
 fn diamond(rt: HostRuntime) -> Result<(), Fail> {
     let heap = rt.alloc();
-    let mut book = table(heap, 4, 3, &DIAMOND)?;
+    let mut book = table(heap, 4, 0, 3, &DIAMOND)?;
     let mut desk = make_desk(heap, Scan::new(), 4)?;
     open(&mut book)?;
     let told = desk.round(&mut book)?;

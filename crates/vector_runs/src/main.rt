@@ -7,6 +7,7 @@ use claims::side_text;
 use pick::{Pick, Scan};
 use scheme::{Book, CallFault};
 use scheme_file::{SchemeFile, read};
+use solver::answers::{Opened, Settled};
 use solver::{cut, open, settle};
 use std::alloc::Global;
 use std::{env, fs};
@@ -27,9 +28,7 @@ fn run(rt: &HostRuntime) -> anyhow::Result<()> {
 
 fn run_file<P: Pick>(rt: &HostRuntime, name: &str, pick: &mut P) -> anyhow::Result<()> {
     let mut bytes = fs::read(rt, name)?;
-    let Ok(found) = read(bytes.as_slice()) else {
-        return Err(anyhow!("no scheme file"));
-    };
+    let found = read(bytes.as_slice()).map_err(|_| anyhow!("no scheme file"))?;
     let mut file = SchemeFile::lend(bytes.as_mut_slice(), found);
     let line = outcome(rt.alloc(), &mut file, pick)?;
     println!(rt; "{name} {line}")?;
@@ -41,17 +40,14 @@ fn outcome<B: Book, P: Pick>(heap: Global, book: &mut B, pick: &mut P) -> anyhow
     let mut order = vec![in heap; 0u16; MOST]?;
     let mut place = vec![in heap; 0u16; MOST]?;
     let mut need = vec![in heap; 0u64; MOST]?;
-    let opened = told(open(book))?;
-    let points = opened.points;
-    let reaches = opened.reaches;
-    let settled = told(settle(
+    let Opened { points, reaches } = told(open(book))?;
+    let Settled { value, .. } = told(settle(
         book,
         pick,
         order.as_mut_slice(),
         place.as_mut_slice(),
         need.as_mut_slice(),
     ))?;
-    let value = settled.value;
     let mut marks = vec![in heap; 0u8; usize::from(points)]?;
     let capacity = told(cut(
         book,
@@ -70,8 +66,5 @@ fn outcome<B: Book, P: Pick>(heap: Global, book: &mut B, pick: &mut P) -> anyhow
 }
 
 fn told<X>(answer: Result<X, CallFault>) -> anyhow::Result<X> {
-    match answer {
-        Ok(x) => Ok(x),
-        Err(_) => Err(anyhow!("refused")),
-    }
+    answer.map_err(|_| anyhow!("refused"))
 }

@@ -1,9 +1,8 @@
 // The file as a book: a read decodes its own bytes, and a write goes into its own four.
-ghost use Rattle.std.specs.Prelude.{◌≡◌, ◌+◌, ◌<◌, ◌≤◌, length, MatchOption};
+ghost use Rattle.std.specs.Prelude.{◌≡◌, ◌≤◌};
 ghost use Rattle.scheme.specs.Scheme.{with_flow, with_limit};
 ghost use Rattle.scheme.specs.Refusals.{book_refusal, refusal_of, unlisted};
-ghost use Rattle.scheme_file.specs.Files.{Accepted, file_bytes, file_kept, file_scheme, held_rows, row_patched};
-ghost use Rattle.scheme_file.specs.Rows.{row_place};
+ghost use Rattle.scheme_file.specs.Files.{Accepted, file_bytes, file_kept, file_scheme, row_patched};
 
 use crate::files::SchemeFile;
 use crate::numbers::put_u32;
@@ -11,31 +10,15 @@ use crate::views::{FLOW, LIMIT};
 use scheme::{Book, BookFault, Register};
 
 impl SchemeFile<'_> {
-    // How many rows there are: all that reading found. (They lie behind the head and inside the bytes of every
-    // file that was opened; the type alone does not say so.)
-    fn held(&self) -> usize
-        ensures { result ≡ held_rows self.now }
-    {
-        self.view().held()
-    }
-
-    // The place of a reach's row.
-    fn row(&self, reach: usize) -> Option<usize>
-        ensures { MatchOption result (held_rows self.now ≤ reach) (λ at. (reach < held_rows self.now) × (at ≡ row_place self.now.rows reach) × (at + 12 ≤ length (file_bytes self.now))) }
-    {
-        self.view().row(reach)
-    }
-
     // Puts a number into the four bytes at an offset of a reach's row.
     fn put(&mut self, reach: usize, offset: usize, x: u32) -> Result<(), BookFault>
         requires { offset ≤ 8 }
         ensures answer { refusal_of book_refusal result ≡ unlisted (file_scheme self.old) reach }
         ensures bytes { file_bytes self.new ≡ row_patched self.old reach offset x }
-        ensures rows { self.new.rows ≡ self.old.rows }
-        ensures count { self.new.count ≡ self.old.count }
+        ensures found { self.new.found ≡ self.old.found }
         ensures loan { self.new.bytes.ghost_name ≡ self.old.bytes.ghost_name }
     {
-        let Some(row) = self.row(reach) else {
+        let Some(row) = self.view().row(reach) else {
             return Err(BookFault::NoReach(reach));
         };
         let at = row + offset;
@@ -44,6 +27,7 @@ impl SchemeFile<'_> {
     }
 }
 
+// Each read is the view's; Rust has no shorter form to pass on a trait's methods.
 impl Register for SchemeFile<'_> {
     ghost scheme = { file_scheme };
 
@@ -60,7 +44,7 @@ impl Register for SchemeFile<'_> {
     }
 
     fn reaches(&self) -> usize {
-        self.held()
+        self.view().reaches()
     }
 
     fn tail(&self, reach: usize) -> Option<u16> {

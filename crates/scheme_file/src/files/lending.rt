@@ -1,6 +1,6 @@
 // Bytes lent to a file by what reading them found, and the file as a view.
 ghost use Rattle.std.specs.Prelude.{◌≡◌};
-ghost use Rattle.scheme_file.specs.Files.{Accepted, FoundIn, file_bytes, file_found, file_scheme, view_bytes};
+ghost use Rattle.scheme_file.specs.Files.{Accepted, FoundIn, file_bytes, file_scheme, view_bytes};
 ghost use Rattle.scheme_file.specs.Layout.{Means};
 
 use crate::files::SchemeFile;
@@ -13,26 +13,18 @@ impl<'a> SchemeFile<'a> {
     pub fn lend(bytes: &'a mut [u8], found: Found) -> SchemeFile<'a>
         ensures same { file_bytes result ≡ bytes.old }
         ensures loan { result.bytes.ghost_name ≡ bytes.entry.ghost_name }
-        ensures rows { file_found result ≡ found }
+        ensures rows { result.found ≡ found }
         ensures accepted { FoundIn bytes.old found → Accepted result }
         ensures means { FoundIn bytes.old found → Means bytes.old (file_scheme result) }
     {
-        SchemeFile {
-            bytes,
-            rows: found.rows,
-            count: found.count,
-        }
+        SchemeFile { bytes, found }
     }
 
     // The file as it is now, to be read.
     pub fn view(&self) -> SchemeView<'_>
         ensures same { view_bytes result ≡ file_bytes self.now }
-        ensures rows { result.found ≡ file_found self.now }
+        ensures rows { result.found ≡ self.now.found }
     {
-        let found = Found {
-            rows: self.rows,
-            count: self.count,
-        };
-        SchemeView::new(self.bytes, found)
+        SchemeView::new(self.bytes, self.found)
     }
 }

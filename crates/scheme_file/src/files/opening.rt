@@ -20,7 +20,7 @@ impl<'a> SchemeFile<'a> {
         Ok(SchemeFile::lend(bytes, found))
     }
 
-    // The same for a caller whose faults are a book's.
+    // The same for a caller whose faults are a book's: here the one becomes the other, by `From` under `?`.
     pub fn open_book(bytes: &'a mut [u8]) -> Result<SchemeFile<'a>, BookFault>
         ensures fault { refusal_of book_refusal result ≡ file_fault bytes.old }
         ensures same { IfOk result (λ f. file_bytes f ≡ bytes.old) }
@@ -43,11 +43,7 @@ impl<'a> SchemeFile<'a> {
         ensures loan { result.ghost_name ≡ self.entry.bytes.ghost_name }
         ensures means { Accepted self.entry → Means result.now (file_scheme self.entry) }
     {
-        let SchemeFile {
-            bytes,
-            rows: _,
-            count: _,
-        } = self;
+        let SchemeFile { bytes, found: _ } = self;
         bytes
     }
 }

@@ -7,6 +7,8 @@ use Rattle.claims.proofs.marks.marks_of.Given as goal
 
 abbrev pub invariant-loop-point : goal.invariant-loop-point
 invariant-loop-point l =
-    (length (vec_items l.marks) ≡ extent l.points l.side)
-    × AllByRecursion (λ m. m ≤ 1) (vec_items l.marks)
-    × ((v : ℕ) → marked (vec_items l.marks) v ≡ among (take l.point-index l.side) v)
+    record {
+      count : length (vec_items l.marks) ≡ extent l.points l.side;
+      bits : AllByRecursion (λ m. m ≤ 1) (vec_items l.marks);
+      members : (v : ℕ) → marked (vec_items l.marks) v ≡ among (take l.point-index l.side) v;
+    }

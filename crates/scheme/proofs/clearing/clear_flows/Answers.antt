@@ -13,11 +13,8 @@ loop-reach-preserved g c =
       c.set_flow.ensures.kept ∙ c.loop-reach.invariant.1,
     )
 
-pub returns : goal.returns
-returns g c =
+pub returns-clause-after : goal.returns-clause-after
+returns-clause-after g c =
     let s = g.B.Register.scheme c.args.book.now in
     let past : length s.reaches ≤ c.loop-reach.reach = omega (arith, c.reaches-count.ensures) in
-    record {
-      after = c.loop-reach.invariant.0 ∙ ap (over s) (changed_all (flowing 0) c.loop-reach.reach s.reaches past);
-      kept = c.loop-reach.invariant.1;
-    }
+    c.loop-reach.invariant.0 ∙ ap (over s) (changed_all (flowing 0) c.loop-reach.reach s.reaches past)

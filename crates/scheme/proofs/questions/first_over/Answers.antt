@@ -1,25 +1,13 @@
-use Rattle.std.proofs.Common.{◌<◌, ◌≤◌, length, sym, ◌∙◌, arith}
+use Rattle.std.proofs.Common.{arith, rules, tests}
+use Rattle.std.proofs.lemmas.Iterator.{first_from_Range}
 use Rattle.scheme.specs.Questions.{carries}
 use Rattle.scheme.specs.Scheme.{no_reach}
-use Rattle.scheme.proofs.Searches.{fail_here, fail_later, fail_nowhere}
+use Rattle.scheme.proofs.Searches.{Fails, first_found}
 use Rattle.scheme.proofs.questions.first_over.Goals as goal
-
-pub returns-then-not-reach_carries : goal.returns-then-not-reach_carries
-returns-then-not-reach_carries g c =
-    let s = g.R.Register.scheme c.args.register.now in
-    let k = c.loop-reach.reach in
-    let within : k < length s.reaches = omega (arith, c.reaches-count.ensures) in
-    sym (fail_here (carries) s.reaches k no_reach within (sym c.reach_carries.ensures ∙ c.if-not-reach_carries.true)) ∙ c.loop-reach.invariant
-
-pub loop-reach-preserved : goal.loop-reach-preserved
-loop-reach-preserved g c =
-    let s = g.R.Register.scheme c.args.register.now in
-    let k = c.loop-reach.reach in
-    let within : k < length s.reaches = omega (arith, c.reaches-count.ensures) in
-    fail_later (carries) s.reaches k no_reach within (sym c.reach_carries.ensures ∙ c.if-not-reach_carries.false) ∙ c.loop-reach.invariant
 
 pub returns : goal.returns
 returns g c =
-    let s = g.R.Register.scheme c.args.register.now in
-    let past : length s.reaches ≤ c.loop-reach.reach = omega (arith, c.reaches-count.ensures) in
-    sym (fail_nowhere (carries) s.reaches _ past) ∙ c.loop-reach.invariant
+    let rs = (g.R.Register.scheme c.args.register.now).reaches in
+    let p = carries in
+    let found = first_from_Range _ _ _ c.find.result (Fails p rs) (λ k. Fails p rs k → ⊥) c.find.ensures.ran (λ k f called. search (rules, tests)) (λ k f called. (search rules, search (rules, tests))) in
+    first_found p rs no_reach 0 _ _ c.reaches.ensures (omega arith) found

@@ -1,5 +1,9 @@
-use Rattle.std.proofs.Common.{◌≡◌, ◌-◌, ◌*◌, ◌≤◌, cond, eqb, take, None, sum_by}
+use Rattle.std.proofs.Common.{◌≡◌, ◌-◌, None}
+use Rattle.std.specs.List.{slice_get}
+use Rattle.std.specs.Option.{option_map}
 use Rattle.scheme.specs.Questions.{first_point, steady}
+use Rattle.scheme.specs.Sums.{gain}
+use Rattle.scheme.proofs.Amounts.{Summed}
 use Rattle.scheme.proofs.questions.first_unbalanced.Given as goal
 
 abbrev pub invariant-points : goal.invariant-points
@@ -9,8 +13,4 @@ invariant-points g l =
 
 abbrev pub invariant-loop-reach : goal.invariant-loop-reach
 invariant-loop-reach g l =
-    let rs = take l.reach (g.R.Register.scheme l.register).reaches in
-    (l.inflow ≡ sum_by (λ r. cond (eqb r.head l.point) r.flow 0) rs)
-    × (l.outflow ≡ sum_by (λ r. cond (eqb r.tail l.point) r.flow 0) rs)
-    × (l.inflow ≤ l.reach * 4294967295)
-    × (l.outflow ≤ l.reach * 4294967295)
+    Summed (λ k x. x ≡ option_map (gain l.point) (slice_get (g.R.Register.scheme l.register).reaches k)) l.reach l.gain

@@ -1,42 +1,23 @@
-use Rattle.std.proofs.Common.{◌≡◌, ◌%◌, ◌≤◌, length, sym, refl, ◌∙◌, arith, rules}
-use Rattle.scheme_file.specs.Asked.{end_at, kind_at, length_at}
-use Rattle.scheme_file.specs.Reading.{Bytes}
-use Rattle.scheme_file.proofs.PartRecords.{part_at}
+use Rattle.std.proofs.Common.{sym, ap, ◌∙◌, arith}
+use Rattle.scheme_file.specs.Kinds.{kind_number}
+use Rattle.scheme_file.proofs.PartRecords.{head_part, note_part, rows_part}
 use Rattle.scheme_file.proofs.parts.part_at.Goals as goal
 
-pub returns-in-1 : goal.returns-in-1
-returns-in-1 c =
-    let bs = c.args.bytes.now in
-    let at = c.args.at in
-    let bytes : Bytes bs = λ i. (c.type_inv.bytes i).fits in
-    let inside : end_at bs at ≤ length bs = omega (arith, c.get_u32-size.ensures) in
-    let kind : kind_at bs at ≡ 1 = sym c.get_u16.ensures ∙ c.in-1.is in
-    record {
-      fault = search rules;
-      found = (omega arith, part_at bs at bytes inside (λ e. omega (arith, kind)) _ refl (sym kind) (search rules) (search rules));
-    }
+pub returns-in-Some-as_array-clause-found : goal.returns-in-Some-as_array-clause-found
+returns-in-Some-as_array-clause-found c =
+    let (within, long, is) = c.in-Some.ensures in
+    let kind = sym c.get_u16.ensures ∙ sym c.in-Ok.ensures ∙ ap kind_number c.in-Head.is in
+    let six = c.in-Some-as_array.ensures.cases in
+    (omega arith, head_part _ _ (λ i. (c.type_inv.bytes i).fits) within c.in-Some.body long is kind six.long _ six.same)
 
-pub returns-else-size-gt-MOST_ROWS : goal.returns-else-size-gt-MOST_ROWS
-returns-else-size-gt-MOST_ROWS c =
-    let bs = c.args.bytes.now in
-    let at = c.args.at in
-    let bytes : Bytes bs = λ i. (c.type_inv.bytes i).fits in
-    let inside : end_at bs at ≤ length bs = omega (arith, c.get_u32-size.ensures) in
-    let kind : kind_at bs at ≡ 2 = sym c.get_u16.ensures ∙ c.in-2.is in
-    let whole : length_at bs at % 12 ≡ 0 = search rules in
-    record {
-      fault = search rules;
-      found = (omega arith, part_at bs at bytes inside (λ _. whole) _ refl (sym kind) (search rules) (search rules));
-    }
+pub returns-else-size-gt-MOST_ROWS-clause-found : goal.returns-else-size-gt-MOST_ROWS-clause-found
+returns-else-size-gt-MOST_ROWS-clause-found c =
+    let (within, long, is) = c.in-Some.ensures in
+    let kind = sym c.get_u16.ensures ∙ sym c.in-Ok.ensures ∙ ap kind_number c.in-Rows.is in
+    (omega arith, rows_part _ _ (λ i. (c.type_inv.bytes i).fits) within _ long is kind (omega arith))
 
-pub returns-in-3 : goal.returns-in-3
-returns-in-3 c =
-    let bs = c.args.bytes.now in
-    let at = c.args.at in
-    let bytes : Bytes bs = λ i. (c.type_inv.bytes i).fits in
-    let inside : end_at bs at ≤ length bs = omega (arith, c.get_u32-size.ensures) in
-    let kind : kind_at bs at ≡ 3 = sym c.get_u16.ensures ∙ c.in-3.is in
-    record {
-      fault = search rules;
-      found = (omega arith, part_at bs at bytes inside (λ e. omega (arith, kind)) _ refl (sym kind) (search rules) (search rules));
-    }
+pub returns-in-Note-clause-found : goal.returns-in-Note-clause-found
+returns-in-Note-clause-found c =
+    let (within, long, is) = c.in-Some.ensures in
+    let kind = sym c.get_u16.ensures ∙ sym c.in-Ok.ensures ∙ ap kind_number c.in-Note.is in
+    (omega arith, note_part _ _ (λ i. (c.type_inv.bytes i).fits) within _ long is kind)

@@ -7,8 +7,8 @@ abbrev pub invariant-points : goal.invariant-points
 invariant-points g l =
     let s = g.R.Register.scheme l.register in
     let ks = g.P.Pick.held l.pick in
-    Underway s l.initial.order l.initial.place ks l.last l.count l.least l.order l.place
+    Underway s l.initial.order l.initial.place ks l.last l.length l.least l.order l.place
     × (size ks ≡ size (g.P.Pick.held l.initial.pick))
 
 abbrev pub decreases-points : goal.decreases-points
-decreases-points g l = (g.R.Register.scheme l.register).points - l.count
+decreases-points g l = (g.R.Register.scheme l.register).points - l.length

@@ -1,4 +1,5 @@
-use Rattle.std.proofs.Common.{refl, ◌∙◌, arith}
+use Rattle.std.proofs.Common.{refl, ap, ◌∙◌, arith}
+use Rattle.solver.specs.Raises.{other_end, left_from_point}
 use Rattle.solver.proofs.Raised.{grown_until, grown_none, grown_again, passes}
 use Rattle.solver.proofs.raising.raise_neighbours.Goals as goal
 
@@ -20,8 +21,9 @@ pub loop-next-preserved : goal.loop-next-preserved
 loop-next-preserved g c =
     let rs = (g.R.Register.scheme c.args.register.now).reaches in
     let ks = g.P.Pick.held c.args.pick.now in
-    let ends = c.left_from-other.ensures in (
+    let ends = c.left_from-other.ensures in
+    let row = c.read_reach.ensures in (
       grown_again rs c.args.point ks _ _ _ _ c.in-Some.reach _ _ c.requires.inside c.requires.room c.in-Some.is
-          c.loop-next.invariant.0 ends.end ends.left c.raise.ensures.after c.next_touching-next-in-Some.ensures,
+          c.loop-next.invariant.0 (ends.end ∙ ap (other_end c.args.point) row) (ends.left ∙ ap (left_from_point c.args.point) row) c.raise.ensures.after c.next_touching-next-in-Some.ensures,
       c.raise.ensures.size ∙ c.loop-next.invariant.1,
     )

@@ -1,30 +1,7 @@
-use Rattle.std.proofs.lemmas.Result.{err_from_is_err_and}
-use Rattle.std.proofs.Common.{Ok, Err}
-use Rattle.solver.proofs.Lent.{lent_round}
+use Rattle.std.proofs.Common.{refl, rules, arith}
+use Rattle.std.proofs.lemmas.Grind.{common_steps}
+use Rattle.solver.proofs.Replays.{round_answered}
 use Rattle.solver.proofs.replaying.call_round.Goals as goal
 
-pub returns-in_err-told : goal.returns-in_err-told
-returns-in_err-told g c =
-    let p = err_from_is_err_and c.from_residual.result c.from_residual.ensures.1 in
-    rw (p.1, p.2)
-    (record {
-      does =
-          lent_round g.P.Pick.held c.args.ask.now _ _ _ _ _ _ _
-          (c.as_mut_slice.ensures.value, c.round.auto.order)
-          (c.as_mut_slice-2.ensures.value, c.round.auto.place)
-          (c.as_mut_slice-3.ensures.value, c.round.auto.need) _ _
-          (Err c.in_err-told.field-0.0) c.in_err-told.ensures.does;
-      kept = c.round.ensures.kept;
-    })
-
-pub returns : goal.returns
-returns g c =
-    record {
-      does =
-          lent_round g.P.Pick.held c.args.ask.now _ _ _ _ _ _ _
-          (c.as_mut_slice.ensures.value, c.round.auto.order)
-          (c.as_mut_slice-2.ensures.value, c.round.auto.place)
-          (c.as_mut_slice-3.ensures.value, c.round.auto.need) _ _
-          (Ok c.in_ok-told.told) c.in_ok-told.ensures.does;
-      kept = c.round.ensures.kept;
-    }
+pub returns-clause-does : goal.returns-clause-does
+returns-clause-does g c = round_answered _ _ _ _ c.round.result _ (search rules) refl refl (grind (arith, common_steps))

@@ -17,14 +17,8 @@ loop-ask-preserved g c =
     in
     (more.0, more.1, c.make_call.ensures.kept ∙ so_far.2)
 
-pub returns : goal.returns
-returns g c =
-    let made = c.loop-ask.invariant in
-    record {
-      does =
-          reached_all (view_of g.P.Pick.held) c.args.asks.now c.loop-ask.asks c.loop-ask.ask-index
-          _ _ _ c.in_ok-told.told c.loop-ask-test.false c.loop-ask.auto.asks
-          c.in_ok-told.ensures.does made.0;
-      unopened = tt;
-      kept = made.2 ∙ c.open.ensures.kept;
-    }
+pub returns-clause-does : goal.returns-clause-does
+returns-clause-does g c =
+    reached_all (view_of g.P.Pick.held) c.args.asks.now c.loop-ask.asks c.loop-ask.ask-index
+    _ _ _ c.in_ok-told.told c.loop-ask-test.false c.loop-ask.auto.asks
+    c.in_ok-told.ensures.does c.loop-ask.invariant.0

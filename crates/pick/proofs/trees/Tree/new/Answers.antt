@@ -1,13 +1,12 @@
-use Rattle.std.proofs.Common.{replicate, arith}
-use Rattle.std.proofs.lemmas.List.{length-replicate}
-use Rattle.pick.specs.declared.trees.Entry.{Entry}
-use Rattle.pick.specs.declared.trees.Tree.{Tree}
-use Rattle.pick.proofs.Begun.{begun_none, begun_lawful, begun_held}
+use Rattle.std.proofs.Common.{length, refl, ap, arith}
+use Rattle.scheme.specs.Bounds.{most_points}
+use Rattle.pick.proofs.Links.{none_back, none_held}
 use Rattle.pick.proofs.trees.Tree.new.Goals as goal
 
-pub returns : goal.returns
-returns c =
-    let e : Entry = record { point = 0; key = 0 } in
-    let t : Tree = record { entries = replicate 512 e; places = replicate 512 512; count = 0 } in
-    let begun = begun_none t.entries (length-replicate 512 e) in
-    record { lawful = begun_lawful t begun (omega arith); held = begun_held t begun (omega arith) }
+pub invariant_of-result : goal.invariant_of-result
+invariant_of-result c =
+    let empty = ap length c.new.ensures in
+    record { all = refl; there = λ i used. absurd (omega arith); back = none_back c.new.result.items most_points }
+
+pub returns-clause-held : goal.returns-clause-held
+returns-clause-held c = none_held c.new.result.items most_points

@@ -1,25 +1,37 @@
-use Rattle.std.proofs.Common.{◌≡◌, set, Some, ap, ◌∙◌, arith}
-use Rattle.std.proofs.lemmas.List.{get_or-set_same, get_or-set_other}
+use Rattle.std.proofs.Common.{◌≡◌, ℕ, List, length, set, sym, ap, ◌∙◌, subst}
+use Rattle.std.proofs.lemmas.List.{length-set}
+use Rattle.arrayvec.proofs.ArrayVecLemmas.{items-with_items}
 use Rattle.pick.specs.declared.trees.Entry.{Entry}
-use Rattle.pick.specs.declared.trees.Tree.{Tree}
-use Rattle.pick.specs.Trees.{point_at, key_at, place_of, held_in}
-use Rattle.pick.proofs.Links.{held_key}
+use Rattle.pick.specs.Entries.{point_at, There, Back, held_by}
+use Rattle.pick.proofs.Links.{another_key}
 use Rattle.pick.proofs.trees.Tree.raise.Goals as goal
 
-pub returns : goal.returns
-returns c =
-    let t : Tree = c.args.self.now in
+-- the entry at a place with another key
+abbrev keyed : List Entry → ℕ → ℕ → List Entry
+keyed es at k = set es at (record { point = point_at es at; key = k })
+
+pub invariant_of-self : goal.invariant_of-self
+invariant_of-self c =
+    let t = c.args.self.now in
     let at = c.args.place in
-    let d : Entry = record { point = 0; key = 0 } in
-    let e : Entry = record { point = point_at t at; key = c.args.key } in
-    let t' : Tree = record { entries = set t.entries at e; places = t.places; count = t.count } in
-    let links = c.requires.lawful.linked in
-    let new : key_at t' at ≡ c.args.key =
-    ap (λ e. e.key) (get_or-set_same t.entries at e d (omega (arith, c.requires.within, links.fits, links.entries))) in
+    let k = c.args.key in
+    let es' : List Entry = keyed c.deref_mut.result.now at k in
+    let len : length es' ≡ length t.entries.items = length-set _ _ _ ∙ ap length c.deref_mut.ensures.value in
+    let is = items-with_items t.entries es' len ∙ ap (λ xs. keyed xs at k) c.deref_mut.ensures.value in
+    let tells = another_key t at k c.requires.within in
     record {
-      lawful = c.climb.ensures.lawful;
-      held = c.climb.ensures.held
-          ∙ held_key (point_at t) (place_of t) t.count links.inverse (key_at t) (key_at t') at c.requires.within
-          (λ i off. ap (λ e. e.key) (get_or-set_other t.entries at i e d off))
-          ∙ ap (λ k. set (held_in t) (point_at t at) (Some k)) new;
+      all = t.all;
+      there = subst (λ xs. There xs t.places) (sym is) tells.there;
+      back = subst (λ xs. Back xs t.places) (sym is) tells.back;
     }
+
+pub returns-clause-held : goal.returns-clause-held
+returns-clause-held c =
+    let t = c.args.self.now in
+    let at = c.args.place in
+    let k = c.args.key in
+    let es' : List Entry = keyed c.deref_mut.result.now at k in
+    let len : length es' ≡ length t.entries.items = length-set _ _ _ ∙ ap length c.deref_mut.ensures.value in
+    c.climb.ensures.held
+    ∙ ap (λ xs. held_by xs t.places) (items-with_items t.entries es' len ∙ ap (λ xs. keyed xs at k) c.deref_mut.ensures.value)
+    ∙ (another_key t at k c.requires.within).held

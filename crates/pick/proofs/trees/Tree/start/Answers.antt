@@ -1,29 +1,37 @@
-use Rattle.std.proofs.Common.{◌≡◌, ◌+◌, set, sym, ap, ◌∙◌, subst, arith}
+use Rattle.std.proofs.Common.{◌≡◌, ◌<◌, length, set, Some, None, ap, ◌∙◌, arith}
+use Rattle.std.proofs.lemmas.List.{length-set}
 use Rattle.scheme.specs.Bounds.{most_points}
-use Rattle.pick.specs.declared.trees.Tree.{Tree}
-use Rattle.pick.specs.Calls.{started}
-use Rattle.pick.proofs.Begun.{Begun, begun_none, begun_more, begun_lawful, begun_held}
+use Rattle.pick.specs.Keys.{key_of}
+use Rattle.pick.specs.Trees.{place_in}
+use Rattle.pick.proofs.Keys.{next_inside, started_more}
+use Rattle.pick.proofs.Links.{inside_place, more_keys, one_more}
 use Rattle.pick.proofs.trees.Tree.start.Goals as goal
 
-pub loop-point-init : goal.loop-point-init
-loop-point-init c = begun_none c.args.self.now.entries c.requires.full
+pub invariant_of-self : goal.invariant_of-self
+invariant_of-self c =
+    let t = c.loop-point.self in
+    let v = c.loop-point.point in
+    let inside : place_in t v ≡ None =
+    inside_place t.entries.items t.places v (ap (λ ks. key_of ks v) c.loop-point.invariant.1 ∙ next_inside most_points v (omega arith)) in
+    let known : v < length t.places = omega (arith, t.all) in
+    let grown = one_more t v 0 v inside known c.loop-point.invariant.0 in
+    record {
+      all = length-set t.places c.from.result (Some v) ∙ t.all;
+      there = rw (c.push.ensures.items, c.from.ensures) grown.there;
+      back = rw (c.push.ensures.items, c.from.ensures) grown.back;
+    }
 
 pub loop-point-preserved : goal.loop-point-preserved
 loop-point-preserved c =
-    let es = c.loop-point.self.entries in
-    let ps = c.loop-point.self.places in
+    let t = c.loop-point.self in
     let v = c.loop-point.point in
-    subst (λ i. Begun (set es i (record { point = v; key = 0 })) (set ps i v) (v + 1)) (sym c.from-place.ensures)
-    (begun_more es ps v c.loop-point.invariant (omega arith))
-
-pub returns : goal.returns
-returns c =
-    let es = c.loop-point.self.entries in
-    let ps = c.loop-point.self.places in
-    let t : Tree = record { entries = es; places = ps; count = c.from-self.result } in
-    let all : c.loop-point.point ≡ t.count = omega arith in
-    let begun : Begun es ps t.count = subst (Begun es ps) all c.loop-point.invariant in
-    record {
-      lawful = begun_lawful t begun (omega arith);
-      held = begun_held t begun (omega arith) ∙ ap (started most_points) c.from-self.ensures;
-    }
+    let inside : place_in t v ≡ None =
+    inside_place t.entries.items t.places v (ap (λ ks. key_of ks v) c.loop-point.invariant.1 ∙ next_inside most_points v (omega arith)) in
+    let known : v < length t.places = omega (arith, t.all) in (
+      omega (arith, c.push.ensures.len, c.loop-point.invariant.0),
+      rw (c.push.ensures.items, c.from.ensures)
+          ((one_more t v 0 v inside known c.loop-point.invariant.0).held
+          ∙ ap (λ ks. set ks v (Some 0)) c.loop-point.invariant.1
+          ∙ started_more most_points v (omega arith)),
+      rw c.push.ensures.items (more_keys t v 0 v inside known c.loop-point.invariant.0 c.loop-point.invariant.2),
+    )

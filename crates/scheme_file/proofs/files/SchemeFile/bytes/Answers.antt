@@ -1,6 +1,6 @@
-use Rattle.std.proofs.Common.{refl}
-use Rattle.scheme_file.proofs.Meaning.{accepted_means}
+use Rattle.scheme_file.specs.Files.{file_bytes}
+use Rattle.scheme_file.proofs.Meaning.{found_means}
 use Rattle.scheme_file.proofs.files.SchemeFile.bytes.Goals as goal
 
-pub returns : goal.returns
-returns c = record { value = refl; means = accepted_means c.args.self.now }
+pub returns-clause-means : goal.returns-clause-means
+returns-clause-means c = found_means (file_bytes c.args.self.now) c.args.self.now.found

@@ -1,18 +1,18 @@
-use Rattle.std.proofs.Common.{◌^◌, ◌<◌}
-use Rattle.scheme_file.proofs.FileWrites.{file_after, file_keeps, stays_accepted}
+use Rattle.scheme_file.proofs.FileWrites.{file_after, file_keeps, file_stays}
 use Rattle.scheme_file.proofs.RowWrites.{limit_field}
 use Rattle.scheme_file.proofs.files.book.SchemeFileBook.set_limit.Goals as goal
 
-pub returns : goal.returns
-returns c =
-    let f = c.args.self.now in
-    let g = c.put.new.self in
+pub returns-clause-after : goal.returns-clause-after
+returns-clause-after c =
     let e = c.put.ensures in
-    let fits : c.args.limit < 2 ^ 32 = c.ranges.limit.fits in
-    record {
-      answer = e.answer;
-      after = file_after limit_field f g c.args.reach c.args.limit fits e.bytes e.rows e.count;
-      kept = file_keeps limit_field f g c.args.reach c.args.limit fits e.bytes e.rows e.count e.loan;
-      bytes = e.bytes;
-      stays = stays_accepted limit_field f g c.args.reach c.args.limit fits e.bytes e.rows e.count;
-    }
+    file_after limit_field c.args.self.now c.put.new.self c.args.reach c.args.limit e.bytes e.found c.ranges.limit.fits
+
+pub returns-clause-kept : goal.returns-clause-kept
+returns-clause-kept c =
+    let e = c.put.ensures in
+    file_keeps limit_field c.args.self.now c.put.new.self c.args.reach c.args.limit e.bytes e.found e.loan
+
+pub returns-clause-stays : goal.returns-clause-stays
+returns-clause-stays c =
+    let e = c.put.ensures in
+    file_stays limit_field c.args.self.now c.put.new.self c.args.reach c.args.limit e.bytes e.found

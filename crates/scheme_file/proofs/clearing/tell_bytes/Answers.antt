@@ -1,4 +1,0 @@
-use Rattle.scheme_file.proofs.clearing.tell_bytes.Goals as goal
-
-pub returns : goal.returns
-returns c = λ i. (c.type_inv.bytes i).fits
