@@ -26,6 +26,7 @@ pub enum Stop {
     Memory,
 }
 
+// Written out, since a derived `From` has no contract.
 impl From<BookFault> for Stop {
     ghost from_gives = { λ fault r. r ≡ Refused (InBook fault) };
 

@@ -33,14 +33,9 @@ fn points_of(bytes: &mut [u8]) -> Result<u16, CallFault> {
 fn a_fault_is_carried_up_whole(rt: HostRuntime) -> Result<(), Fail> {
     let mut bytes = *EXAMPLE_FILE;
     assert_eq!(rt; points_of(&mut bytes).ok(), Some(4));
-    match points_of(&mut bytes[0..77]) {
-        Ok(_) => Err(Fail::new("taken")),
-        Err(fault) => {
-            assert_eq!(rt;
-                Refusal::from(fault),
-                Refusal::from(FileFault::CutShort(12))
-            );
-            Ok(())
-        },
-    }
+    assert_eq!(rt;
+        points_of(&mut bytes[0..77]).err().map(Refusal::from),
+        Some(Refusal::from(FileFault::CutShort(12)))
+    );
+    Ok(())
 }

@@ -54,10 +54,7 @@ fn put_piece(file: &mut Vec<u8>, piece: &Piece) -> Result<(), AllocError> {
 }
 
 fn told(bytes: &mut [u8]) -> Option<Refusal> {
-    match SchemeFile::open(bytes) {
-        Ok(_) => None,
-        Err(fault) => Some(Refusal::from(fault)),
-    }
+    SchemeFile::open(bytes).err().map(Refusal::from)
 }
 
 fn check_case(rt: &impl Abort, heap: Global, case: &Case<'_>) -> Result<(), Fail> {

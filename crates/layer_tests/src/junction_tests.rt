@@ -4,6 +4,7 @@ use layers::Junction;
 use scheme::{Book, CallFault, Register, value_of};
 use std::process::Abort;
 use std::test::Fail;
+use worked_examples::{example, table, twins};
 
 // What a junction stands for over a register that it cannot stand on.
 const NOTHING: Want<'static> = Want {
@@ -12,8 +13,6 @@ const NOTHING: Want<'static> = Want {
     outlet: 65_535,
     reaches: &[],
 };
-
-use worked_examples::{example, table, twins};
 
 fn is_nothing<B: Book>(rt: &impl Abort, book: &mut B) {
     reads_as(rt, book, &NOTHING);

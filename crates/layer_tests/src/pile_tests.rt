@@ -5,6 +5,7 @@ use scheme::Book;
 use scheme_file::SchemeFile;
 use std::process::Abort;
 use std::test::Fail;
+use worked_examples::{EXAMPLE, EXAMPLE_FILE, example};
 
 const PLAIN: Want<'static> = Want {
     points: 4,
@@ -12,8 +13,6 @@ const PLAIN: Want<'static> = Want {
     outlet: 3,
     reaches: &EXAMPLE,
 };
-
-use worked_examples::{EXAMPLE, EXAMPLE_FILE, example};
 
 const TURNED: Want<'static> = Want {
     points: 4,

@@ -9,7 +9,7 @@ use std::array;
 // The most points, each with a gate, that a junction can stand on.
 pub(crate) const GATES: usize = 256;
 
-// Stands for an end that is no point.
+// Stands for an end that is no point: a register's ends are plain numbers, and a junction is to read so there.
 pub(crate) const NO_POINT: u16 = u16::MAX;
 
 // What may pass a point, and what passes it.
@@ -27,7 +27,7 @@ pub(crate) enum Site {
 }
 
 // Gates with these limits, in point order, that nothing passes yet. A point for which none is given is as open as
-// a reach may be.
+// a reach may be. (Of any number of gates, so that a proof does not write out 256.)
 pub(crate) fn fresh_gates<const N: usize>(limits: &[u32]) -> [Gate; N]
     ensures { result ≡ map (fresh_gate limits.now) (range_with_len 0 N) }
 {
@@ -37,7 +37,8 @@ pub(crate) fn fresh_gates<const N: usize>(limits: &[u32]) -> [Gate; N]
     })
 }
 
-// Where water comes to a point of the register below.
+// Where water comes to a point of the register below. This and the next differ by a shift that only the one has; with the shift
+// as a parameter neither would say what it is.
 pub(crate) fn arrival_at(points: u16, point: u16) -> u16
     ensures { result ≡ arrival points point }
 {

@@ -12,6 +12,7 @@ use scheme::{Book, BookFault, Register};
 #[derive(Drop)]
 pub struct Junction<R> {
     below: R,
+    // a fixed table: a layer asks for no memory
     gates: [Gate; GATES],
 }
 
@@ -45,7 +46,8 @@ impl<R> Junction<R> {
 }
 
 impl<R: Register> Junction<R> {
-    // The register below, if it is one that a junction can stand on.
+    // The register below, if it is one that a junction can stand on. (Reads take it apart by `match`: as arguments of `map_or` the
+    // arms would be closures that want clauses of their own.)
     fn carried(&self) -> Option<&R>
         ensures fits { is_some result ≡ carriable (R.scheme self.now.below) }
         ensures same { IfSome result (λ below. below.now ≡ self.now.below) }
@@ -65,6 +67,7 @@ impl<R: Register> Junction<R> {
             return Some(Site::Below);
         }
         let point = reach - reaches;
+        // an `if`, since `then_some` would cast every point
         if point < usize::from(below.points()) {
             Some(Site::At(point as u8))
         } else {

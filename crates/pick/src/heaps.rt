@@ -12,6 +12,7 @@ use scheme::PickFault;
 pub struct Heap {
     // the entry of each point that is outside
     tree: Tree,
+    // a fact of the heap and not of its tree, since it is false while an entry goes up or down
     ghost ordered: { InOrder tree },
 }
 

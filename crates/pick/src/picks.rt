@@ -6,15 +6,17 @@ ghost use Rattle.pick.specs.Keys.{Keys, size};
 ghost use Rattle.pick.specs.Calls.{ask_start, after_start, ask_raise, after_raise, greatest_key, Takes};
 
 use scheme::PickFault;
+use scheme::questions::MOST_POINTS;
 
 // the greatest key that a point may have
 pub const GREATEST_KEY: u64 = 1 << 40;
 
 // the size of each pick of this crate: as many points as a register may have
-pub(crate) const SIZE: usize = 512;
+pub(crate) const SIZE: usize = MOST_POINTS as usize;
 
 // A priority queue over points whose keys only grow. `held` is all that it means: its size, and the key of
-// each point that is outside. A refused call changes nothing, and the size stays.
+// each point that is outside. A refused call changes nothing, and the size stays; that is said of each call, since it ties
+// two values and is no fact of one.
 pub trait Pick {
     ghost held: { Self → Keys };
 

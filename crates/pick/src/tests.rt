@@ -3,7 +3,7 @@ use crate::Either;
 use crate::heaps::Heap;
 use crate::picks::Pick;
 use crate::scans::Scan;
-use scheme::{Layer, PickFault, Refusal};
+use scheme::{Layer, Refusal};
 use std::process::Abort;
 use std::test::Fail;
 
@@ -31,117 +31,104 @@ fn either_of_two_kinds(rt: HostRuntime) -> Result<(), Fail> {
     Ok(())
 }
 
-// A call and what it must answer.
+// A call, and what it must answer: the number of its refusal, if it is refused, or what is taken, if there is anything.
 #[derive(Clone, Copy)]
 enum Step {
-    Start(u16),
-    Raise(u16, u64),
-    Take(u16, u64),
-    // nothing is there to take
-    Nothing,
-    // the start is refused with 10, and the raise with the last number
-    NoStart(u16),
-    NoRaise(u16, u64, u16),
+    Start(u16, Option<u16>),
+    Raise(u16, u64, Option<u16>),
+    Take(Option<(u16, u64)>),
 }
 
-fn told(answer: Result<(), PickFault>) -> Option<Refusal> {
-    answer.err().map(Refusal::from)
-}
-
-fn refusal(number: u16, place: usize) -> Option<Refusal> {
-    Some(Refusal {
+fn refusal(number: u16, place: usize) -> Refusal {
+    Refusal {
         layer: Layer::Pick,
         number,
         place,
-    })
+    }
 }
 
-// Makes the calls of one trial. A wrong answer ends the test and names the trial.
+// Makes the calls of one trial, which is data, so which call comes is asked here. A wrong answer ends the test and names the
+// trial.
 fn walk<P: Pick>(rt: &impl Abort, pick: &mut P, trial: &str, steps: &[Step]) {
     for step in steps {
         match *step {
-            Step::Start(points) => assert_eq!(rt; told(pick.start(points)), None, "{trial}"),
-            Step::Raise(point, by) => assert_eq!(rt; told(pick.raise(point, by)), None, "{trial}"),
-            Step::Take(point, key) => assert_eq!(rt; pick.take(), Some((point, key)), "{trial}"),
-            Step::Nothing => assert_eq!(rt; pick.take(), None, "{trial}"),
-            Step::NoStart(points) => assert_eq!(rt;
-                told(pick.start(points)),
-                refusal(10, 0),
+            Step::Start(points, refused) => assert_eq!(rt;
+                pick.start(points).err().map(Refusal::from),
+                refused.map(|number| refusal(number, 0)),
                 "{trial}"
             ),
-            Step::NoRaise(point, by, number) => {
-                assert_eq!(rt;
-                    told(pick.raise(point, by)),
-                    refusal(number, usize::from(point)),
-                    "{trial}"
-                )
-            }
+            Step::Raise(point, by, refused) => assert_eq!(rt;
+                pick.raise(point, by).err().map(Refusal::from),
+                refused.map(|number| refusal(number, usize::from(point))),
+                "{trial}"
+            ),
+            Step::Take(taken) => assert_eq!(rt; pick.take(), taken, "{trial}"),
         }
     }
 }
 
 const FRESH_AND_EMPTIED: [Step; 7] = [
-    Step::Nothing,
-    Step::NoRaise(0, 1, 17),
-    Step::Start(1),
-    Step::Take(0, 0),
-    Step::Nothing,
-    Step::Start(0),
-    Step::Nothing,
+    Step::Take(None),
+    Step::Raise(0, 1, Some(17)),
+    Step::Start(1, None),
+    Step::Take(Some((0, 0))),
+    Step::Take(None),
+    Step::Start(0, None),
+    Step::Take(None),
 ];
 
 const SIZES: [Step; 5] = [
-    Step::Start(512),
-    Step::Raise(511, 3),
-    Step::NoStart(513),
-    Step::NoStart(65_535),
-    Step::Take(511, 3),
+    Step::Start(512, None),
+    Step::Raise(511, 3, None),
+    Step::Start(513, Some(10)),
+    Step::Start(65_535, Some(10)),
+    Step::Take(Some((511, 3))),
 ];
 
 const INSIDE_POINTS: [Step; 7] = [
-    Step::Start(3),
-    Step::Raise(1, 5),
-    Step::Take(1, 5),
-    Step::NoRaise(1, 1, 17),
-    Step::NoRaise(3, 0, 17),
-    Step::NoRaise(4, u64::MAX, 17),
-    Step::NoRaise(65_535, 1, 17),
+    Step::Start(3, None),
+    Step::Raise(1, 5, None),
+    Step::Take(Some((1, 5))),
+    Step::Raise(1, 1, Some(17)),
+    Step::Raise(3, 0, Some(17)),
+    Step::Raise(4, u64::MAX, Some(17)),
+    Step::Raise(65_535, 1, Some(17)),
 ];
 
 const KEY_LIMIT: [Step; 8] = [
-    Step::Start(1),
-    Step::NoRaise(0, 1_099_511_627_777, 18),
-    Step::NoRaise(0, u64::MAX, 18),
-    Step::Raise(0, 1_099_511_627_776),
-    Step::Raise(0, 0),
-    Step::NoRaise(0, 1, 18),
-    Step::NoRaise(0, u64::MAX, 18),
-    Step::Take(0, 1_099_511_627_776),
+    Step::Start(1, None),
+    Step::Raise(0, 1_099_511_627_777, Some(18)),
+    Step::Raise(0, u64::MAX, Some(18)),
+    Step::Raise(0, 1_099_511_627_776, None),
+    Step::Raise(0, 0, None),
+    Step::Raise(0, 1, Some(18)),
+    Step::Raise(0, u64::MAX, Some(18)),
+    Step::Take(Some((0, 1_099_511_627_776))),
 ];
 
 const KEY_LIMIT_IN_STEPS: [Step; 6] = [
-    Step::Start(2),
-    Step::Raise(1, 1_099_511_627_775),
-    Step::NoRaise(1, 2, 18),
-    Step::Raise(1, 1),
-    Step::NoRaise(1, 1, 18),
-    Step::Take(1, 1_099_511_627_776),
+    Step::Start(2, None),
+    Step::Raise(1, 1_099_511_627_775, None),
+    Step::Raise(1, 2, Some(18)),
+    Step::Raise(1, 1, None),
+    Step::Raise(1, 1, Some(18)),
+    Step::Take(Some((1, 1_099_511_627_776))),
 ];
 
 const RESTART: [Step; 6] = [
-    Step::Start(3),
-    Step::Raise(0, 4),
-    Step::Raise(2, 9),
-    Step::Start(1),
-    Step::Take(0, 0),
-    Step::Nothing,
+    Step::Start(3, None),
+    Step::Raise(0, 4, None),
+    Step::Raise(2, 9, None),
+    Step::Start(1, None),
+    Step::Take(Some((0, 0))),
+    Step::Take(None),
 ];
 
 const TIE: [Step; 4] = [
-    Step::Start(3),
-    Step::Raise(0, 7),
-    Step::Raise(1, 6),
-    Step::Raise(2, 7),
+    Step::Start(3, None),
+    Step::Raise(0, 7, None),
+    Step::Raise(1, 6, None),
+    Step::Raise(2, 7, None),
 ];
 
 // Either of two equal points may come first; then the other comes.
@@ -151,7 +138,12 @@ fn tie<P: Pick>(rt: &impl Abort, pick: &mut P) -> Result<(), Fail> {
     assert_eq!(rt; key, 7, "tie");
     assert!(rt; first == 0 || first == 2, "tie");
     let other = if first == 0 { 2 } else { 0 };
-    walk(rt, pick, "tie", &[Step::Take(other, 7), Step::Take(1, 6)]);
+    walk(
+        rt,
+        pick,
+        "tie",
+        &[Step::Take(Some((other, 7))), Step::Take(Some((1, 6)))],
+    );
     Ok(())
 }
 
@@ -161,10 +153,10 @@ fn scan_takes_the_smallest_of_equal_points(rt: HostRuntime) -> Result<(), Fail> 
     let mut pick = Scan::new();
     walk(&rt, &mut pick, "smallest first", &TIE);
     let taken = [
-        Step::Take(0, 7),
-        Step::Take(2, 7),
-        Step::Take(1, 6),
-        Step::Nothing,
+        Step::Take(Some((0, 7))),
+        Step::Take(Some((2, 7))),
+        Step::Take(Some((1, 6))),
+        Step::Take(None),
     ];
     walk(&rt, &mut pick, "smallest first", &taken);
     Ok(())

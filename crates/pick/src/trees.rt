@@ -40,10 +40,11 @@ fn child(place: usize) -> usize
     2 * place + 1
 }
 
+// That a place lies in the tree is asked of each call: a place is a number, and the tree changes under it.
 #[derive(Drop)]
 pub(crate) struct Tree {
     entries: ArrayVec<Entry, SIZE>,
-    // of each point the place of its entry, if it has one
+    // of each point the place of its entry, if it has one, so that no search is made for it
     places: [Option<u16>; SIZE],
     ghost all: { length places ≡ most_points },
     ghost there: { There entries.items places } by { Prim.hlevel props },
@@ -52,7 +53,8 @@ pub(crate) struct Tree {
 
 impl Tree {
     ghost use Rattle.pick.specs.Calls.{fresh, started, Takes};
-    ghost use Rattle.pick.specs.Trees.{point_in, key_in, place_in, held_in, count, taken_of, InOrder, Climbing, Sinking, Exchanged, SmallerAbove, GreatestChild, GreaterChild};
+    ghost use Rattle.pick.specs.Trees.{point_in, key_in, place_in, held_in, count, taken_of, InOrder, Climbing, Sinking};
+    ghost use Rattle.pick.specs.Trees.{Exchanged, SmallerAbove, GreatestChild, GreaterChild};
 
     pub(crate) fn new() -> Tree
         ensures empty { count result ≡ 0 }
@@ -71,6 +73,7 @@ impl Tree {
         ensures held { held_in self.new ≡ started most_points points }
     {
         *self = Tree::new();
+        // entry and place together, so that each finds the other after every turn
         for point in 0..points {
             self.entries.push(Entry { point, key: 0 });
             self.places[usize::from(point)] = Some(point);
@@ -116,7 +119,8 @@ impl Tree {
             .then_some(up)
     }
 
-    // Lets the entry at a place come up to where it belongs. It may only be too low.
+    // Lets the entry at a place come up to where it belongs. It may only be too low. (Up and down stay two methods: what is out
+    // of order on the way differs, so one method for both would take that, too, and is no plainer.)
     fn climb(&mut self, from: usize)
         requires within { from < count self.old }
         requires climbing { Climbing (key_in self.old) (count self.old) from }

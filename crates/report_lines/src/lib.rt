@@ -4,4 +4,5 @@
 mod lines;
 mod page;
 
+pub use lines::LINE_BYTES;
 pub use page::report_line;

@@ -1,5 +1,5 @@
 // The lines of a report as text. They are pushed piece by piece, since no clause says that `write!` succeeds where the
-// text fits, and a line has no error to tell.
+// text fits, and a line has no error to tell. So a side is spelled here as well as in the claims, which print by `Display`.
 ghost use Rattle.std.specs.Prelude.{◌≡◌, ◌≤◌, ◌++◌, length, codes};
 ghost use Rattle.scheme.specs.Bounds.{most_points};
 ghost use Rattle.scheme.specs.Words.{side_point};
@@ -8,11 +8,14 @@ ghost use Rattle.report_lines.specs.Lines.{side_line, flow_line};
 use arrayvec::ArrayString;
 use itoa::{Buffer, Integer};
 
-// A line, with room for the longest: a side of all points, at six bytes each.
-pub type Line = ArrayString<4096>;
+// The bytes of a caller's table: room for the longest line, a side of all points at six bytes each.
+pub const LINE_BYTES: usize = 4_096;
+
+// A line.
+pub(crate) type Line = ArrayString<LINE_BYTES>;
 
 // A word with its space, a number and a newline.
-pub fn number_text<I: Integer>(word: &str, number: I) -> Line
+pub(crate) fn number_text<I: Integer>(word: &str, number: I) -> Line
     requires { length word.now ≤ 8 }
     ensures { result.bytes ≡ word.now ++ (I.text number ++ codes "\n") }
 {
@@ -23,7 +26,7 @@ pub fn number_text<I: Integer>(word: &str, number: I) -> Line
     line
 }
 
-pub fn flow_text(reach: usize, flow: u32) -> Line
+pub(crate) fn flow_text(reach: usize, flow: u32) -> Line
     ensures { result.bytes ≡ flow_line reach flow }
 {
     let mut line = Line::new();
@@ -49,7 +52,7 @@ fn point_text(point: u16, mark: u8) -> ArrayString<6>
 }
 
 // The marked points in number order.
-pub fn side_text(marks: &[u8]) -> Line
+pub(crate) fn side_text(marks: &[u8]) -> Line
     requires { length marks.now ≤ most_points }
     ensures { result.bytes ≡ side_line marks.now }
 {

@@ -5,7 +5,7 @@ ghost use Rattle.scheme.specs.Scheme.{flow_at};
 ghost use Rattle.report_lines.specs.Laid.{written};
 ghost use Rattle.report_lines.specs.Lines.{flow_told, lines_of_report, line_bytes};
 
-use crate::lines::{Line, flow_text, number_text, side_text};
+use crate::lines::{LINE_BYTES, Line, flow_text, number_text, side_text};
 use scheme::{Few, Register, is_side_of_shaped};
 
 // Writes a line of a report, counted from 0, at the start of the table, and answers its length. It writes nothing and
@@ -15,7 +15,7 @@ pub fn report_line<R: Register>(
     marks: &[u8],
     rounds: u64,
     line: usize,
-    table: &mut [u8; 4096],
+    table: &mut [u8; LINE_BYTES],
 ) -> usize
     ensures told { result ≡ length (line_bytes (R.scheme register.now) marks.now rounds line) }
     ensures table { table.new
@@ -29,7 +29,7 @@ pub fn report_line<R: Register>(
 }
 
 // Copies a line to the start of the table, and answers its length.
-fn put_line(line: &Line, table: &mut [u8; 4096]) -> usize
+fn put_line(line: &Line, table: &mut [u8; LINE_BYTES]) -> usize
     ensures told { result ≡ length line.now.bytes }
     ensures table { table.new ≡ written line.now.bytes table.old }
     ensures fits { result ≤ 4096 }

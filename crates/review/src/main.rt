@@ -4,12 +4,13 @@
 use anyhow::anyhow;
 use claims::{Stop, review};
 use scheme::Refusal;
+use scheme_file::MOST_BYTES;
 use std::env;
 use std::io::Read;
 use std::process::ExitCode;
 
 // One byte more than a scheme file may have: past that the answer is known.
-const ENOUGH_BYTES: u64 = 65_537;
+const ENOUGH_BYTES: u64 = MOST_BYTES as u64 + 1;
 
 // A claim that is not accepted ends the program with status 1.
 fn main(rt: HostRuntime) -> anyhow::Result<ExitCode> {

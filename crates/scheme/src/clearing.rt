@@ -10,6 +10,7 @@ pub fn clear_flows<B: Book>(book: &mut B)
     ensures kept { B.kept book.new ≡ B.kept book.old }
 {
     let count = book.reaches();
+    // over the numbers of the reaches, since a book is written by number
     for reach in 0..count {
         // every reach below `count` is in the list, so no write is refused
         let _ = book.set_flow(reach, 0);

@@ -15,6 +15,7 @@ pub enum Layer {
 #[derive(Clone, Copy, PartialEq, Eq, Debug)]
 pub struct Refusal {
     pub layer: Layer,
+    // what is printed, and known outside
     pub number: u16,
     pub place: usize,
 }
@@ -29,6 +30,7 @@ pub enum FileFault {
     BadRows(usize),
 }
 
+// Each layer has numbers of its own, so each kind of fault has a conversion of its own.
 impl From<FileFault> for Refusal {
     ghost from_gives = { λ fault r. r ≡ file_refusal fault };
 
@@ -153,6 +155,7 @@ impl From<CallFault> for Refusal {
     }
 }
 
+// The three written out, since a derived `From` has no contract.
 impl From<FileFault> for BookFault {
     ghost from_gives = { λ fault r. r ≡ InFile fault };
 

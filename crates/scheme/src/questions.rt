@@ -91,7 +91,8 @@ fn reach_carries<R: Register>(register: &R, reach: usize) -> Option<bool>
     Some(register.flow(reach)? <= register.limit(reach)?)
 }
 
-// The first inner point whose inflow is not its outflow.
+// The first inner point whose inflow is not its outflow: nested loops, left by the label at that point, as docs/DECISIONS.md has
+// it.
 fn first_unbalanced<R: Register>(few: &Few<'_, R>) -> Option<u16>
     ensures { result ≡ first_point (steady (R.scheme few.now.register.now)) 0 (R.scheme few.now.register.now).points }
 {

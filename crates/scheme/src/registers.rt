@@ -39,7 +39,8 @@ pub trait Register {
 // A register that can be written. A write is refused exactly if the reach is not in the list, and then
 // changes nothing; otherwise just the one field takes the number.
 pub trait Book: Register {
-    // What no write changes beside the meaning. An implementation that has no more than its meaning keeps nothing.
+    // What no write changes beside the meaning. An implementation that has no more than its meaning keeps nothing. (Whatever
+    // writes a book says that this stays: it ties two values, and is no fact of one.)
     ghost kept: { Self → Kept } = { λ _. nothing_kept };
 
     fn set_limit(&mut self, reach: usize, limit: u32) -> Result<(), BookFault>

@@ -69,7 +69,8 @@ pub fn is_side_of_shaped<R: Register>(register: &R, marks: &[u8]) -> bool
     is_shaped(register) && is_side(register, marks)
 }
 
-// Is there a mark for each point, and does each fit? It stops at the first that does not.
+// Is there a mark for each point, and does each fit? The loop goes over the marks with their index and stops at the first that
+// does not, as docs/DECISIONS.md has it.
 fn is_side<R: Register>(register: &R, marks: &[u8]) -> bool
     requires inlet_is_point { (R.scheme register.now).inlet < (R.scheme register.now).points }
     requires outlet_is_point { (R.scheme register.now).outlet < (R.scheme register.now).points }
@@ -107,7 +108,8 @@ impl<R: Register> Few<'_, R> {
     }
 }
 
-// What a reach adds to the capacity of the marked points.
+// What a reach adds to the capacity of the marked points. This and what a reach takes out of a point read just the fields that
+// they need, so they are two.
 fn leaving_of<R: Register>(register: &R, reach: usize, marks: &[u8]) -> Option<i64>
     ensures leaving { result
         ≡ option_map (leaving (marked marks.now)) (slice_get (R.scheme register.now).reaches reach) }

@@ -83,6 +83,8 @@ impl Register for Table {
     }
 }
 
+// The two writes differ in the field: a method for both would hand out a borrow of the row, and need a clause on what comes
+// back through it.
 impl Book for Table {
     fn set_limit(&mut self, reach: usize, limit: u32) -> Result<(), BookFault> {
         let row = self.rows.get_mut(reach).ok_or(BookFault::NoReach(reach))?;

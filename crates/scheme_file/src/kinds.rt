@@ -21,6 +21,7 @@ impl From<Kind> for u16 {
     }
 }
 
+// The numbers once more, since a pattern is no cast.
 impl TryFrom<u16> for Kind {
     type Error = UnknownKind;
 

@@ -14,6 +14,6 @@ pub use clearing::clear_file;
 pub use files::SchemeFile;
 pub use kinds::{Kind, UnknownKind};
 pub use parts::{Part, part_at};
-pub use reading::{Found, read};
+pub use reading::{Found, MOST_BYTES, read};
 pub use views::SchemeView;
 pub use walking::Parts;

@@ -2,7 +2,8 @@
 ghost use Rattle.std.specs.Prelude.{◌≡◌, ◌+◌, ◌^◌, ◌<◌, length};
 ghost use Rattle.scheme_file.specs.Numbers.{bytes_from, four, two_at, four_at};
 
-// The bytes from a place on, each 0 that is past the end.
+// The bytes from a place on, each 0 that is past the end. (Byte by byte: a copy of those that are there would need their bounds
+// first, and be no plainer.)
 fn bytes_at<const N: usize>(bytes: &[u8], at: usize) -> [u8; N]
     requires { at + N < 2 ^ 64 }
     ensures { result ≡ bytes_from bytes.now at N }

@@ -17,13 +17,19 @@ pub(crate) const HEADER: usize = 6;
 
 const KIND: usize = 4;
 
-const HEAD_SIZE: usize = 6;
+pub(crate) const HEAD_SIZE: usize = 6;
+
+// Where the inlet and the outlet stand in a head, behind the points.
+pub(crate) const INLET: usize = 2;
+
+pub(crate) const OUTLET: usize = 4;
 
 pub(crate) const ROW_SIZE: usize = 12;
 
 const MOST_ROWS: usize = 4096;
 
-// A record with the place of its first byte. Its body is lent out of the file.
+// A record with the place of its first byte. Its body is lent out of the file. (Place and body stand in each case, since callers
+// match on the cases, and a head's body has its own length.)
 #[derive(Clone, Copy)]
 pub enum Part<'a> {
     Head {
@@ -89,13 +95,13 @@ impl Part<'_> {
     pub fn inlet(&self) -> Option<u16>
         ensures { result ≡ part_inlet self.now }
     {
-        self.number(2)
+        self.number(INLET)
     }
 
     pub fn outlet(&self) -> Option<u16>
         ensures { result ≡ part_outlet self.now }
     {
-        self.number(4)
+        self.number(OUTLET)
     }
 
     fn number(&self, offset: usize) -> Option<u16>
@@ -112,16 +118,22 @@ impl Part<'_> {
 // The body of the record at a place, if the record lies wholly inside the file.
 fn body_at(bytes: &[u8], at: usize) -> Option<&[u8]>
     requires { at < length bytes.now }
-    ensures { MatchOption result (inside bytes.now at ≡ false) (λ body. (inside bytes.now at ≡ true) × (length body.now ≡ length_at bytes.now at) × (body.now ≡ between (at + 6) (end_at bytes.now at) bytes.now)) }
+    ensures { MatchOption result (inside bytes.now at ≡ false)
+        (λ body. (inside bytes.now at ≡ true) × (length body.now ≡ length_at bytes.now at)
+        × (body.now ≡ between (at + 6) (end_at bytes.now at) bytes.now)) }
 {
     let size = get_u32(bytes, at) as usize;
     bytes.get(at + HEADER..)?.get(..size)
 }
 
-// The record at a place, or nothing at the file's end. `rows_seen` tells whether a row block came before.
+// The record at a place, or nothing at the file's end. `rows_seen` tells whether a row block came before: a record is asked
+// alone, so whoever goes over a file has to say it. (By `let .. else`:
+// behind `ok_or(..)?` the check does not see what the call says.)
 pub fn part_at(bytes: &[u8], at: usize, rows_seen: bool) -> Result<Option<Part<'_>>, FileFault>
-    ensures fault { refusal_of file_refusal result ≡ (if nat_lt at (length bytes.now) then ask_record bytes.now at rows_seen else None) }
-    ensures found { IfOk result (λ part. MatchOption part (length bytes.now ≤ at) (λ p. (at < length bytes.now) × PartAt bytes.now at p)) }
+    ensures fault { refusal_of file_refusal result
+        ≡ (if nat_lt at (length bytes.now) then ask_record bytes.now at rows_seen else None) }
+    ensures found { IfOk result (λ part. MatchOption part (length bytes.now ≤ at)
+        (λ p. (at < length bytes.now) × PartAt bytes.now at p)) }
 {
     if at >= bytes.len() {
         return Ok(None);

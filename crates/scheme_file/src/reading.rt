@@ -11,7 +11,8 @@ use crate::parts::{HEADER, Part, ROW_SIZE};
 use crate::walking::Parts;
 use scheme::FileFault;
 
-const MOST_BYTES: usize = 65536;
+// The most bytes that a scheme file may have.
+pub const MOST_BYTES: usize = 65_536;
 
 // What reading found.
 #[derive(Clone, Copy)]
@@ -49,6 +50,7 @@ fn row_block(bytes: &[u8]) -> Result<usize, FileFault>
             rows = Some(at);
         }
     }
+    // by a match, since having none is refused in two ways
     match rows {
         Some(at) => Ok(at),
         None if bytes.is_empty() => Err(FileFault::BadHead(0)),

@@ -5,18 +5,12 @@ ghost use Rattle.scheme_file.specs.Layout.{Means};
 ghost use Rattle.scheme_file.specs.Rows.{row_at, row_place};
 
 use crate::numbers::{get_u16, get_u32};
-use crate::parts::ROW_SIZE;
+use crate::parts::{HEAD_SIZE, HEADER, INLET, OUTLET, ROW_SIZE};
 use crate::reading::Found;
 use scheme::Register;
 
-// Where the head's numbers begin, and where it ends.
-const POINTS: usize = 6;
-
-const INLET: usize = 8;
-
-const OUTLET: usize = 10;
-
-const HEAD_END: usize = 12;
+// Where the head ends.
+const HEAD_END: usize = HEADER + HEAD_SIZE;
 
 // Where the fields of a row begin, after the tail.
 const HEAD: usize = 2;
@@ -58,7 +52,9 @@ impl<'a> SchemeView<'a> {
 
     // The place of a reach's row.
     pub(crate) fn row(&self, reach: usize) -> Option<usize>
-        ensures place { MatchOption result (view_rows self.now ≤ reach) (λ at. (reach < view_rows self.now) × (at ≡ row_place self.now.found.rows reach) × (at + 12 ≤ length (view_bytes self.now))) }
+        ensures place { MatchOption result (view_rows self.now ≤ reach)
+            (λ at. (reach < view_rows self.now) × (at ≡ row_place self.now.found.rows reach)
+            × (at + 12 ≤ length (view_bytes self.now))) }
         ensures row { slice_get (view_scheme self.now).reaches reach ≡ option_map (row_at (view_bytes self.now)) result }
     {
         if reach >= self.held() {
@@ -72,15 +68,15 @@ impl Register for SchemeView<'_> {
     ghost scheme = { view_scheme };
 
     fn points(&self) -> u16 {
-        get_u16(self.bytes, POINTS)
+        get_u16(self.bytes, HEADER)
     }
 
     fn inlet(&self) -> u16 {
-        get_u16(self.bytes, INLET)
+        get_u16(self.bytes, HEADER + INLET)
     }
 
     fn outlet(&self) -> u16 {
-        get_u16(self.bytes, OUTLET)
+        get_u16(self.bytes, HEADER + OUTLET)
     }
 
     fn reaches(&self) -> usize {

@@ -1,5 +1,5 @@
 -- How the keys grow from a point that was taken, reach by reach.
-use Rattle.std.proofs.Common.{◌≡◌, ℕ, zero, suc, ◌+◌, ◌-◌, ◌<◌, ◌≤◌, true, false, cond, eqb, ◌≢◌, List, length, get_or, take, Some, None, Option, sym, refl, ap, ◌∙◌, subst, ⊎_elim, arith}
+use Rattle.std.proofs.Common.{◌≡◌, ℕ, zero, suc, ◌+◌, ◌-◌, ◌<◌, ◌≤◌, true, false, cond, eqb, ◌≢◌, List, length, get_or, take, Some, None, Option, sym, refl, ap, ◌∙◌, ⊎_elim, arith}
 use Rattle.std.specs.Option.{option_map}
 use Rattle.std.proofs.lemmas.List.{get_or-set_same, get_or-set_other, take_all}
 use Rattle.std.proofs.lemmas.List.Sums.{fold_more}
@@ -146,55 +146,25 @@ module _ (rs : List Reach) (u : ℕ) where
 
 -- ---- the loop
 
--- grown along the reaches before the next one that touches the point, or along all
-abbrev pub GrownUntil : List Reach → ℕ → Keys → Option ℕ → Keys → Type 0
-GrownUntil rs u ks None now = GrownFrom u rs ks now
-GrownUntil rs u ks (Some j) now =
-    (j < length rs) × (touches u (get_or rs j no_reach) ≡ true) × GrownFrom u (take j rs) ks now
-
--- how many reaches are not yet passed
-abbrev pub unpassed : List Reach → Option ℕ → ℕ
-unpassed rs None = 0
-unpassed rs (Some j) = length rs - j
-
 module _ (rs : List Reach) (u : ℕ) where
-  pub grown_until :
-      (ks now : Keys) (j : ℕ) (next : Option ℕ) → next ≡ next_that_touches rs u j → j ≤ length rs
-      → GrownFrom u (take j rs) ks now → GrownUntil rs u ks next now
-  grown_until ks now j None found within so_far =
-      let all = grown_to rs u ks now j (length rs) within (omega arith) (next_none rs u j (sym found)) so_far in
-      rw (take_all (length rs) rs (omega arith)) at all
-  grown_until ks now j (Some i) found within so_far =
-      let next = next_is rs u j i (sym found) in
-      (next.within, next.here, grown_to rs u ks now j i next.from (omega (arith, next.within)) next.before so_far)
-
   pub grown_none : (ks : Keys) → GrownFrom u (take 0 rs) ks ks
   grown_none ks w = sym (mapped_same _ (key_of ks w) (λ k. refl))
 
-  pub at_reach :
-      (ks now : Keys) (at : Option ℕ) (j : ℕ) → at ≡ Some j → GrownUntil rs u ks at now → GrownUntil rs u ks (Some j) now
-  at_reach ks now at j is so_far = subst (λ o. GrownUntil rs u ks o now) is so_far
-
-  -- a turn at reach j
+  -- a turn at reach j, the next one from k on that touches the point
   pub grown_again :
-      (ks before after : Keys) (at next : Option ℕ) (j other left : ℕ) → key_of ks u ≡ None → RoomToGrow u rs ks
-      → at ≡ Some j → GrownUntil rs u ks at before → other ≡ other_end u (get_or rs j no_reach)
-      → left ≡ left_from_point u (get_or rs j no_reach) → after ≡ after_raise before other left
-      → next ≡ next_that_touches rs u (j + 1) → GrownUntil rs u ks next after
-  grown_again ks before after at next j other left inside room is so_far end amount raised found =
-      let here = at_reach ks before at j is so_far in
+      (ks before after : Keys) (k j other left : ℕ) → key_of ks u ≡ None → RoomToGrow u rs ks
+      → next_that_touches rs u k ≡ Some j → GrownFrom u (take k rs) ks before
+      → other ≡ other_end u (get_or rs j no_reach) → left ≡ left_from_point u (get_or rs j no_reach)
+      → after ≡ after_raise before other left → GrownFrom u (take (j + 1) rs) ks after
+  grown_again ks before after k j other left inside room found so_far end amount raised =
+      let next = next_is rs u k j found in
+      let here = grown_to rs u ks before k j next.from (omega (arith, next.within)) next.before so_far in
       let done = raised ∙ ap (λ v. after_raise before v left) end ∙ ap (after_raise before (other_end u (get_or rs j no_reach))) amount in
-      grown_until ks after (j + 1) next found (omega (arith, here.0))
-      (grown_here rs u ks before after j inside room here.0 here.1 here.2 done)
+      grown_here rs u ks before after j inside room next.within next.here here done
 
-  pub passes :
-      (ks now : Keys) (at next : Option ℕ) (j : ℕ) → at ≡ Some j → GrownUntil rs u ks at now
-      → next ≡ next_that_touches rs u (j + 1) → unpassed rs next < unpassed rs at
-  passes ks now at next j is so_far found =
-      rw is (fewer next (at_reach ks now at j is so_far).0 found)
-    where
-      fewer : (next : Option ℕ) → j < length rs → next ≡ next_that_touches rs u (j + 1) → unpassed rs next < length rs - j
-      fewer None within found = omega arith
-      fewer (Some i) within found =
-          let next = next_is rs u (j + 1) i (sym found) in
-          omega (arith, next.from, next.within)
+  pub grown_all :
+      (ks now : Keys) (k : ℕ) → k ≤ length rs → next_that_touches rs u k ≡ None → GrownFrom u (take k rs) ks now
+      → GrownFrom u rs ks now
+  grown_all ks now k within found so_far =
+      let all = grown_to rs u ks now k (length rs) within (omega arith) (next_none rs u k found) so_far in
+      rw (take_all (length rs) rs (omega arith)) at all

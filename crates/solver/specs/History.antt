@@ -15,7 +15,8 @@ use Rattle.solver.specs.declared.asks.Call.TheVariants.{Open, Limit, Round, Sett
 use Rattle.solver.specs.declared.asks.Answer.{Answer}
 use Rattle.solver.specs.declared.asks.Answer.TheVariants.{OfOpen, OfLimit, OfRound, OfSettle, OfValue, OfCut}
 use Rattle.solver.specs.declared.asks.Ask.{Ask}
-use Rattle.solver.specs.Work.{Work, work_of}
+use Rattle.solver.specs.Work.{Work}
+use Rattle.solver.specs.Desks.{tables_of}
 use Rattle.solver.specs.Calls.{OpenDoes, LimitDoes, RoundDoes, RoundMade, SettleDoes, ValueDoes, CutDoes}
 use Rattle.solver.specs.Laws.{LawfulWith, Closes, SettledAt, LeastCut, StillAGap}
 
@@ -31,9 +32,9 @@ abbrev pub view_of : {P : Type 0} → (P → Keys) → Ask P → View
 view_of held a =
     record {
       call = a.call;
-      work = work_of (vec_items a.order) (vec_items a.place) (vec_items a.need);
-      marks = vec_items a.marks;
-      keys = held a.pick;
+      work = tables_of a.desk;
+      marks = vec_items a.desk.marks;
+      keys = held a.desk.pick;
       answer = a.answer;
     }
 

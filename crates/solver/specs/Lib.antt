@@ -1,4 +1,5 @@
 pub mod Work
+pub mod Desks
 pub mod Ready
 pub mod Joins
 pub mod Calls

@@ -1,5 +1,6 @@
 // One call of a list: which it is, what comes with it, and what it answered.
 use crate::answers::{Opened, Rounded, Settled};
+use crate::desks::Desk;
 use scheme::CallFault;
 
 #[derive(Clone, Copy)]
@@ -26,10 +27,6 @@ pub enum Answer {
 #[derive(Drop)]
 pub struct Ask<P> {
     pub call: Call,
-    pub order: Vec<u16>,
-    pub place: Vec<u16>,
-    pub need: Vec<u64>,
-    pub marks: Vec<u8>,
-    pub pick: P,
+    pub desk: Desk<P>,
     pub answer: Option<Result<Answer, CallFault>>,
 }

@@ -53,6 +53,7 @@ fn mark_placed(marks: &mut [u8], place: &[u16], points: u16)
         ≡ written (map (λ v. (if nat_eq (slice_index place.now v) no_point then 0 else 1)) (range_with_len 0 points))
         marks.old }
 {
+    // by their index: after a loop over `marks.iter_mut().zip(..)` nothing is known of the marks
     for (point, place) in place[..usize::from(points)].iter().enumerate() {
         marks[point] = u8::from(*place != NO_PLACE);
     }

@@ -9,7 +9,8 @@ ghost use Rattle.solver.specs.Joins.{touches, next_that_touches};
 
 use scheme::{Reach, Register, reach_of};
 
-// Stands where the list has no reach; the callers ask only of reaches that are in it.
+// Stands where the list has no reach. (The callers ask only of reaches that are in it; with an Option each of them would have
+// to say what it does where there is none.)
 const NO_REACH: Reach = Reach {
     tail: 0,
     head: 0,

@@ -5,6 +5,7 @@ pub mod answers;
 mod asking;
 pub mod asks;
 mod cutting;
+pub mod desks;
 mod joining;
 pub mod laws;
 mod opening;

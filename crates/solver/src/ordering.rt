@@ -67,7 +67,8 @@ fn take_the_rest<R: Register, P: Pick>(
     let mut length: u16 = 1;
     // no key passes the greatest
     let mut least = GREATEST_KEY;
-    let gain = 'points: loop {
+    // what ends it stands in its middle, between the taking of a point and its entering
+    let gain = loop {
         raise_neighbours(register, pick, last);
         let (point, key) = take_greatest(pick);
         if key == 0 {

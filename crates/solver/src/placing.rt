@@ -3,7 +3,7 @@ ghost use Rattle.std.specs.Prelude.{◌≡◌, ◌<◌, ◌≤◌, length, repli
 ghost use Rattle.scheme.specs.Bounds.{no_point};
 ghost use Rattle.solver.specs.Work.{written};
 
-// what stands at a point that is not in the order
+// What stands at a point that is not in the order: a caller's table has numbers of 16 bits, and no Options.
 pub(crate) const NO_PLACE: u16 = 65_535;
 
 // Writes that none of the first `points` points is in the order.

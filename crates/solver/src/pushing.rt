@@ -86,7 +86,7 @@ fn push_point<B: Book>(book: &mut B, place: &[u16], need: &mut [u64], point: u16
 }
 
 // The point asks along one reach, if that joins it with an earlier point: it gets the smaller of what it still needs
-// and what is left along the reach towards it.
+// and what is left along the reach towards it. (Two arms, since the flow rises in the one and falls in the other.)
 fn push_reach<B: Book>(book: &mut B, place: &[u16], need: &mut [u64], point: u16, reach: usize)
     requires { ReachAsks (B.scheme book.old) place.now need.old point reach }
     ensures flows { B.scheme book.new ≡ over (B.scheme book.old)

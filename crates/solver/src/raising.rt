@@ -18,12 +18,12 @@ pub(crate) fn raise_neighbours<R: Register, P: Pick>(register: &R, pick: &mut P,
         (P.held pick.old) (P.held pick.new) }
     ensures size { size (P.held pick.new) ≡ size (P.held pick.old) }
 {
-    let mut next = next_touching(register, point, 0);
-    while let Some(reach) = next {
+    let mut from = 0;
+    while let Some(reach) = next_touching(register, point, from) {
         let (other, left) = left_from(read_reach(register, reach), point);
         // a point that is inside refuses the raise, which then changes nothing
         let _ = pick.raise(other, left);
-        next = next_touching(register, point, reach + 1);
+        from = reach + 1;
     }
 }
 

@@ -6,10 +6,7 @@ ghost use Rattle.solver.specs.declared.asks.Call.TheVariants.{Open, Limit, Round
 
 use crate::answers::Opened;
 use crate::asks::{Answer, Ask, Call};
-use crate::cutting::cut;
 use crate::opening::{limit, open, value};
-use crate::rounds::round;
-use crate::settling::settle;
 use pick::Pick;
 use scheme::{Book, CallFault};
 
@@ -57,6 +54,7 @@ fn answer_call<B: Book, P: Pick>(book: &mut B, ask: &mut Ask<P>) -> Result<Answe
     }
 }
 
+// Each call is a function, whose clause is the case of `Answered` that it makes true.
 fn call_open<B: Book, P: Pick>(book: &mut B, ask: &Ask<P>) -> Result<Answer, CallFault>
     ensures does { Answered Open
         (B.scheme book.old) (view_of P.held ask.now) result
@@ -86,14 +84,7 @@ fn call_round<B: Book, P: Pick>(book: &mut B, ask: &mut Ask<P>) -> Result<Answer
         (B.scheme book.new) (view_of P.held ask.new) }
     ensures kept { B.kept book.new ≡ B.kept book.old }
 {
-    round(
-        book,
-        &mut ask.pick,
-        ask.order.as_mut_slice(),
-        ask.place.as_mut_slice(),
-        ask.need.as_mut_slice(),
-    )
-    .map(Answer::OfRound)
+    ask.desk.round(book).map(Answer::OfRound)
 }
 
 fn call_settle<B: Book, P: Pick>(book: &mut B, ask: &mut Ask<P>) -> Result<Answer, CallFault>
@@ -102,14 +93,7 @@ fn call_settle<B: Book, P: Pick>(book: &mut B, ask: &mut Ask<P>) -> Result<Answe
         (B.scheme book.new) (view_of P.held ask.new) }
     ensures kept { B.kept book.new ≡ B.kept book.old }
 {
-    settle(
-        book,
-        &mut ask.pick,
-        ask.order.as_mut_slice(),
-        ask.place.as_mut_slice(),
-        ask.need.as_mut_slice(),
-    )
-    .map(Answer::OfSettle)
+    ask.desk.settle(book).map(Answer::OfSettle)
 }
 
 fn call_value<B: Book, P: Pick>(book: &B, ask: &Ask<P>) -> Result<Answer, CallFault>
@@ -125,13 +109,5 @@ fn call_cut<B: Book, P: Pick>(book: &B, ask: &mut Ask<P>) -> Result<Answer, Call
         (B.scheme book.now) (view_of P.held ask.old) result
         (B.scheme book.now) (view_of P.held ask.new) }
 {
-    cut(
-        book,
-        &mut ask.pick,
-        ask.order.as_mut_slice(),
-        ask.place.as_mut_slice(),
-        ask.need.as_mut_slice(),
-        ask.marks.as_mut_slice(),
-    )
-    .map(Answer::OfCut)
+    ask.desk.cut(book).map(Answer::OfCut)
 }

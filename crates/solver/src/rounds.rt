@@ -15,7 +15,7 @@ use scheme::{Book, CallFault};
 
 // Makes one round, and answers its gain and the length of its order.
 // The three tables stay three slices, in every call: lent as one struct they would be unknown afterwards to a caller that
-// owns them as `Vec`s (tried with `&mut`, by value and through a constructor).
+// owns them as `Vec`s (tried with `&mut`, by value and through a constructor). A `Desk` owns them all.
 pub fn round<B: Book, P: Pick>(
     book: &mut B,
     pick: &mut P,

@@ -1,7 +1,7 @@
-// The tables and the pick that come with a call, and what is asked of them afterwards.
+// Desks for tests, and what is asked of their tables afterwards.
 use pick::Pick;
-use scheme::{Book, CallFault, Register};
-use solver::answers::{Rounded, Settled};
+use scheme::Register;
+use solver::desks::Desk;
 use std::alloc::{AllocError, Global};
 use std::fmt::Debug;
 use std::process::Abort;
@@ -9,15 +9,6 @@ use std::test::*;
 
 // What stands in a table before a call, so that what is untouched shows.
 pub const OLD: u8 = 77;
-
-#[derive(Drop)]
-pub struct Desk<P> {
-    pub order: Vec<u16>,
-    pub place: Vec<u16>,
-    pub need: Vec<u64>,
-    pub marks: Vec<u8>,
-    pub pick: P,
-}
 
 // Tables of this many entries each.
 pub(crate) fn make_desk<P: Drop>(
@@ -34,49 +25,16 @@ pub(crate) fn make_desk<P: Drop>(
     })
 }
 
-impl<P: Pick> Desk<P> {
-    pub(crate) fn round<B: Book>(&mut self, book: &mut B) -> Result<Rounded, CallFault> {
-        solver::round(
-            book,
-            &mut self.pick,
-            self.order.as_mut_slice(),
-            self.place.as_mut_slice(),
-            self.need.as_mut_slice(),
-        )
-    }
-
-    pub(crate) fn settle<B: Book>(&mut self, book: &mut B) -> Result<Settled, CallFault> {
-        solver::settle(
-            book,
-            &mut self.pick,
-            self.order.as_mut_slice(),
-            self.place.as_mut_slice(),
-            self.need.as_mut_slice(),
-        )
-    }
-
-    pub(crate) fn cut<R: Register>(&mut self, register: &R) -> Result<u64, CallFault> {
-        solver::cut(
-            register,
-            &mut self.pick,
-            self.order.as_mut_slice(),
-            self.place.as_mut_slice(),
-            self.need.as_mut_slice(),
-            self.marks.as_mut_slice(),
-        )
-    }
-
-    // A cut that answers this capacity and these marks, with the byte behind them untouched.
-    pub(crate) fn cuts<R: Register>(
-        &mut self,
-        rt: &impl Abort,
-        register: &R,
-        capacity: u64,
-        marks: &[u8],
-    ) -> Result<(), Fail> {
-        assert_eq!(rt; self.cut(register), Ok(capacity));
-        begins_with(rt, self.marks.as_slice(), marks)
-    }
+// A cut that answers this capacity and these marks, with the byte behind them untouched.
+pub(crate) fn cuts<R: Register, P: Pick>(
+    rt: &impl Abort,
+    desk: &mut Desk<P>,
+    register: &R,
+    capacity: u64,
+    marks: &[u8],
+) -> Result<(), Fail> {
+    assert_eq!(rt; desk.cut(register), Ok(capacity));
+    begins_with(rt, desk.marks.as_slice(), marks)
 }
 
 // The table begins so, and is as it was from there on.
@@ -86,8 +44,10 @@ pub(crate) fn begins_with<T: Copy + Drop + PartialEq + Debug + From<u8>>(
     begin: &[T],
 ) -> Result<(), Fail> {
     assert!(rt; begin.len() <= table.len());
-    for (i, entry) in table.iter().enumerate() {
-        assert_eq!(rt; *entry, begin.get(i).copied().unwrap_or(T::from(OLD)));
+    let (first, rest) = table.split_at(begin.len());
+    assert_eq!(rt; first, begin);
+    for entry in rest {
+        assert_eq!(rt; *entry, T::from(OLD));
     }
     Ok(())
 }

@@ -1,10 +1,11 @@
 // The example of four points, call by call, over a table and over a file in place, with either pick.
-use crate::desks::{Desk, begins_with, flows_are, make_desk};
-use crate::examples::EXAMPLE_FILE;
+use crate::desks::{begins_with, cuts, flows_are, make_desk};
+use crate::examples::noted_file;
 use pick::{Pick, Scan};
 use scheme::{Book, CallFault};
 use scheme_file::{SchemeFile, read};
 use solver::answers::{Opened, Rounded, Settled};
+use solver::desks::Desk;
 use solver::{limit, open, value};
 use std::process::Abort;
 use std::test::*;
@@ -50,7 +51,7 @@ fn settled<B: Book, P: Pick>(
     begins_with(rt, desk.order.as_slice(), &[0, 1, 2, 3])?;
     begins_with(rt, desk.place.as_slice(), &[0, 1, 2, 65_535])?;
     begins_with(rt, desk.need.as_slice(), &[0, 0, 0, 0])?;
-    desk.cuts(rt, book, 8, &[1, 1, 1, 0])
+    cuts(rt, desk, book, 8, &[1, 1, 1, 0])
 }
 
 // On the settled example: limit 5 on the last reach is under its flow, 6 is taken, and 7 makes room for one round.
@@ -70,7 +71,7 @@ fn widened<B: Book, P: Pick>(
         })
     );
     flows_are(rt, book, &[5, 4, 3, 2, 7])?;
-    desk.cuts(rt, book, 9, &[1, 0, 0, 0])
+    cuts(rt, desk, book, 9, &[1, 0, 0, 0])
 }
 
 fn all<B: Book, P: Pick>(rt: &impl Abort, book: &mut B, desk: &mut Desk<P>) -> Result<(), Fail> {
@@ -93,11 +94,11 @@ fn over_a_table(rt: HostRuntime) -> Result<(), Fail> {
 #[test]
 fn over_a_file(rt: HostRuntime) -> Result<(), Fail> {
     let heap = rt.alloc();
-    let mut bytes = *EXAMPLE_FILE;
+    let mut bytes = noted_file();
     let found = read(&bytes)?;
     let mut file = SchemeFile::lend(&mut bytes, found);
     all(&rt, &mut file, &mut make_desk(heap, Scan::new(), 6)?)?;
-    let mut want = *EXAMPLE_FILE;
+    let mut want = noted_file();
     want[70] = 7;
     for (at, flow) in [(26, 5), (38, 4), (50, 3), (62, 2), (74, 7)] {
         want[at] = flow;

@@ -3,6 +3,7 @@ use pick::Scan;
 use scheme::CallFault;
 use solver::answers::{Opened, Rounded, Settled};
 use solver::asks::{Answer, Ask, Call};
+use solver::desks::Desk;
 use solver::replay;
 use std::alloc::{AllocError, Global};
 use std::test::*;
@@ -11,11 +12,13 @@ use worked_examples::example;
 fn ask(heap: Global, call: Call) -> Result<Ask<Scan>, AllocError> {
     Ok(Ask {
         call,
-        order: vec![in heap; 0; 4]?,
-        place: vec![in heap; 0; 4]?,
-        need: vec![in heap; 0; 4]?,
-        marks: vec![in heap; 0; 4]?,
-        pick: Scan::new(),
+        desk: Desk {
+            order: vec![in heap; 0; 4]?,
+            place: vec![in heap; 0; 4]?,
+            need: vec![in heap; 0; 4]?,
+            marks: vec![in heap; 0; 4]?,
+            pick: Scan::new(),
+        },
         answer: None,
     })
 }

@@ -1,6 +1,6 @@
 // The calls over piles of layers.
-use crate::desks::{flows_are, make_desk};
-use crate::examples::EXAMPLE_FILE;
+use crate::desks::{cuts, flows_are, make_desk};
+use crate::examples::noted_file;
 use layers::{Junction, Turned};
 use pick::Scan;
 use scheme::Book;
@@ -20,7 +20,7 @@ fn turned<B: Book + Drop>(rt: &impl Abort, heap: Global, below: B) -> Result<(),
     let told = desk.settle(&mut book)?;
     assert_eq!(rt; told.value, 9);
     flows_are(rt, book.below(), &[5, 4, 3, 2, 7])?;
-    desk.cuts(rt, &book, 9, &[0, 0, 0, 1])
+    cuts(rt, &mut desk, &book, 9, &[0, 0, 0, 1])
 }
 
 // Point 2 passes only 5, so that 7 is the most; the pinch is reaches 3 and the gate of point 2.
@@ -30,7 +30,7 @@ fn junction<B: Book + Drop>(rt: &impl Abort, heap: Global, below: B) -> Result<(
     open(&mut book)?;
     let told = desk.settle(&mut book)?;
     assert_eq!(rt; told.value, 7);
-    desk.cuts(rt, &book, 7, &[1, 1, 1, 0, 1, 1, 0, 0])
+    cuts(rt, &mut desk, &book, 7, &[1, 1, 1, 0, 1, 1, 0, 0])
 }
 
 // Both, one over the other, and turned again.
@@ -55,7 +55,7 @@ fn over_a_table(rt: HostRuntime) -> Result<(), Fail> {
 #[test]
 fn over_a_file(rt: HostRuntime) -> Result<(), Fail> {
     let heap = rt.alloc();
-    let mut bytes = *EXAMPLE_FILE;
+    let mut bytes = noted_file();
     let found = read(&bytes)?;
     junction(&rt, heap, SchemeFile::lend(&mut bytes, found))?;
     pile(&rt, heap, SchemeFile::lend(&mut bytes, found))?;

@@ -1,7 +1,8 @@
 // Each refusal at its bound and in its turn, with book, tables and pick as they were.
-use crate::desks::{Desk, begins_with, flows_are, make_desk};
+use crate::desks::{begins_with, flows_are, make_desk};
 use pick::{Pick, Scan};
 use scheme::{CallFault, Layer, Reach, Refusal, Table};
+use solver::desks::Desk;
 use solver::{limit, open};
 use std::process::Abort;
 use std::test::*;
@@ -15,6 +16,7 @@ const OVER: Reach = Reach {
     flow: 2,
 };
 
+// As in the tests of `scheme`, which lie below any crate that could share it.
 fn told<X: Drop>(answer: Result<X, CallFault>) -> Option<Refusal> {
     answer.err().map(Refusal::from)
 }

@@ -1,5 +1,5 @@
 // Small schemes with one thing each.
-use crate::desks::{flows_are, make_desk};
+use crate::desks::{cuts, flows_are, make_desk};
 use crate::examples::DIAMOND;
 use pick::Scan;
 use scheme::{Reach, Register, Table};
@@ -20,7 +20,7 @@ fn no_reach(rt: HostRuntime) -> Result<(), Fail> {
             rounds: 0,
         })
     );
-    desk.cuts(&rt, &book, 0, &[1, 0])
+    cuts(&rt, &mut desk, &book, 0, &[1, 0])
 }
 
 // Two reaches side by side count for one key.

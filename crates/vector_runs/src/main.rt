@@ -5,28 +5,26 @@
 use anyhow::anyhow;
 use claims::side_text;
 use pick::{Pick, Scan};
+use scheme::questions::MOST_POINTS;
 use scheme::{Book, CallFault};
 use scheme_file::{SchemeFile, read};
 use solver::answers::{Opened, Settled};
-use solver::{cut, open, settle};
+use solver::desks::Desk;
+use solver::open;
 use std::alloc::Global;
 use std::{env, fs};
 
 // tables of this many entries hold every scheme
-const MOST: usize = 512;
+const MOST: usize = MOST_POINTS as usize;
 
 fn main(rt: HostRuntime) -> anyhow::Result<()> {
-    run(&rt)
-}
-
-fn run(rt: &HostRuntime) -> anyhow::Result<()> {
-    for name in env::args(rt)?.skip(1) {
-        run_file(rt, name.as_str(), &mut Scan::new())?;
+    for name in env::args(&rt)?.skip(1) {
+        run_file(&rt, name.as_str(), Scan::new())?;
     }
     Ok(())
 }
 
-fn run_file<P: Pick>(rt: &HostRuntime, name: &str, pick: &mut P) -> anyhow::Result<()> {
+fn run_file<P: Pick + Drop>(rt: &HostRuntime, name: &str, pick: P) -> anyhow::Result<()> {
     let mut bytes = fs::read(rt, name)?;
     let found = read(bytes.as_slice()).map_err(|_| anyhow!("no scheme file"))?;
     let mut file = SchemeFile::lend(bytes.as_mut_slice(), found);
@@ -36,28 +34,19 @@ fn run_file<P: Pick>(rt: &HostRuntime, name: &str, pick: &mut P) -> anyhow::Resu
 }
 
 // What came of a book: its size, the greatest value, and the least side of that capacity.
-fn outcome<B: Book, P: Pick>(heap: Global, book: &mut B, pick: &mut P) -> anyhow::Result<String> {
-    let mut order = vec![in heap; 0u16; MOST]?;
-    let mut place = vec![in heap; 0u16; MOST]?;
-    let mut need = vec![in heap; 0u64; MOST]?;
+fn outcome<B: Book, P: Pick + Drop>(heap: Global, book: &mut B, pick: P) -> anyhow::Result<String> {
+    let mut desk = Desk {
+        order: vec![in heap; 0u16; MOST]?,
+        place: vec![in heap; 0u16; MOST]?,
+        need: vec![in heap; 0u64; MOST]?,
+        marks: Vec::new(heap),
+        pick,
+    };
     let Opened { points, reaches } = told(open(book))?;
-    let Settled { value, .. } = told(settle(
-        book,
-        pick,
-        order.as_mut_slice(),
-        place.as_mut_slice(),
-        need.as_mut_slice(),
-    ))?;
-    let mut marks = vec![in heap; 0u8; usize::from(points)]?;
-    let capacity = told(cut(
-        book,
-        pick,
-        order.as_mut_slice(),
-        place.as_mut_slice(),
-        need.as_mut_slice(),
-        marks.as_mut_slice(),
-    ))?;
-    let side = side_text(heap, marks.as_slice())?;
+    let Settled { value, .. } = told(desk.settle(book))?;
+    desk.marks = vec![in heap; 0u8; usize::from(points)]?;
+    let capacity = told(desk.cut(book))?;
+    let side = side_text(heap, desk.marks.as_slice())?;
     // the pinch lets just the value through
     if i64::try_from(capacity) != Ok(value) {
         return Err(anyhow!("the capacity is not the value"));

@@ -20,7 +20,8 @@ impl<'a> SchemeFile<'a> {
         Ok(SchemeFile::lend(bytes, found))
     }
 
-    // The same for a caller whose faults are a book's: here the one becomes the other, by `From` under `?`.
+    // The same for a caller whose faults are a book's, and so no twin to do without: here the one fault becomes the other, by
+    // `From` under `?`.
     pub fn open_book(bytes: &'a mut [u8]) -> Result<SchemeFile<'a>, BookFault>
         ensures fault { refusal_of book_refusal result ≡ file_fault bytes.old }
         ensures same { IfOk result (λ f. file_bytes f ≡ bytes.old) }

@@ -1,29 +1,41 @@
-use Rattle.std.proofs.Common.{refl, ap, ◌∙◌, arith}
+use Rattle.std.proofs.Common.{sym, refl, ap, ◌∙◌, arith}
 use Rattle.solver.specs.Raises.{other_end, left_from_point}
-use Rattle.solver.proofs.Raised.{grown_until, grown_none, grown_again, passes}
+use Rattle.solver.proofs.Raised.{grown_none, grown_again, grown_all}
+use Rattle.solver.proofs.Touching.{next_is}
 use Rattle.solver.proofs.raising.raise_neighbours.Goals as goal
 
-pub loop-next-init : goal.loop-next-init
-loop-next-init g c =
-    let rs = (g.R.Register.scheme c.args.register.now).reaches in
-    let ks = g.P.Pick.held c.args.pick.now in
-    let u = c.args.point in
-    (grown_until rs u ks ks 0 _ c.next_touching-next.ensures (omega arith) (grown_none rs u ks), refl)
+pub loop-reach-init : goal.loop-reach-init
+loop-reach-init g c =
+    (omega arith, grown_none (g.R.Register.scheme c.args.register.now).reaches c.args.point (g.P.Pick.held c.args.pick.now), refl)
 
-pub loop-next-smaller : goal.loop-next-smaller
-loop-next-smaller g c =
+pub overflow_add-from : goal.overflow_add-from
+overflow_add-from g c =
     let rs = (g.R.Register.scheme c.args.register.now).reaches in
-    let ks = g.P.Pick.held c.args.pick.now in
-    passes rs c.args.point ks _ c.loop-next.next _ c.in-Some.reach c.in-Some.is c.loop-next.invariant.0
-    c.next_touching-next-in-Some.ensures
+    let next = next_is rs c.args.point c.loop-reach.from c.in-Some.reach (sym c.in-Some.ensures) in
+    omega (arith, next.within, c.requires.formed.few_reaches)
 
-pub loop-next-preserved : goal.loop-next-preserved
-loop-next-preserved g c =
+pub loop-reach-smaller : goal.loop-reach-smaller
+loop-reach-smaller g c =
+    let rs = (g.R.Register.scheme c.args.register.now).reaches in
+    let next = next_is rs c.args.point c.loop-reach.from c.in-Some.reach (sym c.in-Some.ensures) in
+    omega (arith, next.within, next.from)
+
+pub loop-reach-preserved : goal.loop-reach-preserved
+loop-reach-preserved g c =
     let rs = (g.R.Register.scheme c.args.register.now).reaches in
     let ks = g.P.Pick.held c.args.pick.now in
+    let found = sym c.in-Some.ensures in
+    let next = next_is rs c.args.point c.loop-reach.from c.in-Some.reach found in
     let ends = c.left_from-other.ensures in
     let row = c.read_reach.ensures in (
-      grown_again rs c.args.point ks _ _ _ _ c.in-Some.reach _ _ c.requires.inside c.requires.room c.in-Some.is
-          c.loop-next.invariant.0 (ends.end ∙ ap (other_end c.args.point) row) (ends.left ∙ ap (left_from_point c.args.point) row) c.raise.ensures.after c.next_touching-next-in-Some.ensures,
-      c.raise.ensures.size ∙ c.loop-next.invariant.1,
+      omega (arith, next.within),
+      grown_again rs c.args.point ks _ _ c.loop-reach.from c.in-Some.reach _ _ c.requires.inside c.requires.room found
+          c.loop-reach.invariant.1 (ends.end ∙ ap (other_end c.args.point) row) (ends.left ∙ ap (left_from_point c.args.point) row) c.raise.ensures.after,
+      c.raise.ensures.size ∙ c.loop-reach.invariant.2,
     )
+
+pub returns-clause-grown : goal.returns-clause-grown
+returns-clause-grown g c =
+    let so_far = c.loop-reach.invariant in
+    grown_all (g.R.Register.scheme c.args.register.now).reaches c.args.point (g.P.Pick.held c.args.pick.now) _ _ so_far.0
+    (sym c.in_default.ensures) so_far.1
