@@ -14,21 +14,14 @@ const NOTED: &[u8; 60] = b"\
     \x03\0\0\0\x03\0new\
 ";
 
-const CLEARED: &[u8; 60] = b"\
-    \x06\0\0\0\x01\0\
-    \x02\0\0\0\x01\0\
-    \x03\0\0\0\x03\0old\
-    \x18\0\0\0\x02\0\
-    \0\0\x01\0\x05\0\0\0\0\0\0\0\
-    \0\0\x01\0\x07\0\0\0\0\0\0\0\
-    \x03\0\0\0\x03\0new\
-";
-
 #[test]
 fn clears_just_the_flows(rt: HostRuntime) -> Result<(), Fail> {
     let mut bytes = *NOTED;
     assert_eq!(rt; clear_file(&mut bytes), Ok(()));
-    assert_eq!(rt; bytes.as_slice(), CLEARED.as_slice());
+    let mut want = *NOTED;
+    want[35..39].fill(0);
+    want[47..51].fill(0);
+    assert_eq!(rt; bytes.as_slice(), want.as_slice());
     read(&bytes)?;
     Ok(())
 }

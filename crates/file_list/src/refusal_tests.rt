@@ -39,6 +39,7 @@ fn refused(pieces: &[Piece], number: u16, place: usize) -> Case<'_> {
     }
 }
 
+// A file's refusal; the tests of each crate make those of its own layer.
 fn refusal(number: u16, place: usize) -> Refusal {
     Refusal {
         layer: Layer::File,

@@ -4,7 +4,7 @@ use layers::Junction;
 use scheme::{Book, CallFault, Register, value_of};
 use std::process::Abort;
 use std::test::Fail;
-use worked_examples::{example, table, twins};
+use worked_examples::{GATE_LIMITS, example, table, twins};
 
 // What a junction stands for over a register that it cannot stand on.
 const NOTHING: Want<'static> = Want {
@@ -87,7 +87,7 @@ fn ends_that_are_no_points_read_65535(rt: HostRuntime) -> Result<(), Fail> {
 
 #[test]
 fn writes_go_where_the_reads_come_from(rt: HostRuntime) -> Result<(), Fail> {
-    let mut j = Junction::new(example(rt.alloc())?, &[9, 9, 5, 9]);
+    let mut j = Junction::new(example(rt.alloc())?, &GATE_LIMITS);
     // the gate of point 2
     j.set_flow(7, 3)?;
     assert_eq!(rt; j.flow(7), Some(3));
@@ -105,7 +105,7 @@ fn writes_go_where_the_reads_come_from(rt: HostRuntime) -> Result<(), Fail> {
 // The junction list 9 9 5 9 over the example: point 2 passes only 5, so that 7 is the most.
 #[test]
 fn a_junction_is_reviewed(rt: HostRuntime) -> Result<(), Fail> {
-    let mut j = Junction::new(example(rt.alloc())?, &[9, 9, 5, 9]);
+    let mut j = Junction::new(example(rt.alloc())?, &GATE_LIMITS);
     let flows = [3, 4, 1, 2, 5, 7, 3, 5, 7];
     for (reach, flow) in flows.iter().enumerate() {
         j.set_flow(reach, *flow)?;

@@ -5,7 +5,7 @@ use scheme::Book;
 use scheme_file::SchemeFile;
 use std::process::Abort;
 use std::test::Fail;
-use worked_examples::{EXAMPLE, EXAMPLE_FILE, example};
+use worked_examples::{EXAMPLE, EXAMPLE_FILE, GATE_LIMITS, example};
 
 const PLAIN: Want<'static> = Want {
     points: 4,
@@ -20,9 +20,6 @@ const TURNED: Want<'static> = Want {
     outlet: 0,
     reaches: &[(1, 0, 5), (2, 0, 4), (2, 1, 3), (3, 1, 2), (3, 2, 6)],
 };
-
-// The gates' limits, in point order.
-const GATES: [u32; 4] = [9, 9, 5, 9];
 
 // Written out by hand: the reaches below leave from u + 4, and the gates stand behind them.
 const SPLIT: Want<'static> = Want {
@@ -65,11 +62,11 @@ fn turned_is_a_book<B: Book + Drop>(rt: &impl Abort, below: B) -> Result<(), Fai
 }
 
 fn junction_is_a_book<B: Book + Drop>(rt: &impl Abort, below: B) -> Result<(), Fail> {
-    takes_writes(rt, &mut Junction::new(below, &GATES), &SPLIT)
+    takes_writes(rt, &mut Junction::new(below, &GATE_LIMITS), &SPLIT)
 }
 
 fn pile_is_a_book<B: Book + Drop>(rt: &impl Abort, below: B) -> Result<(), Fail> {
-    let mut pile = Turned::new(Junction::new(Turned::new(below), &GATES));
+    let mut pile = Turned::new(Junction::new(Turned::new(below), &GATE_LIMITS));
     takes_writes(rt, &mut pile, &PILED)
 }
 

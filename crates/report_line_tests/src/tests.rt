@@ -8,6 +8,7 @@ use std::test::Fail;
 // What stands in a table before a line is put there.
 const BEFORE: u8 = 170;
 
+// Rows with flows are written out here as in the tests of `scheme`, which lie below any crate that could share them.
 fn reach(tail: u16, head: u16, limit: u32, flow: u32) -> Reach {
     Reach {
         tail,

@@ -9,7 +9,7 @@ use solver::{limit, open};
 use std::alloc::Global;
 use std::process::Abort;
 use std::test::*;
-use worked_examples::example;
+use worked_examples::{GATE_LIMITS, example};
 
 // The widened example turned round: the pinch is at its inlet, which is point 3.
 fn turned<B: Book + Drop>(rt: &impl Abort, heap: Global, below: B) -> Result<(), Fail> {
@@ -25,7 +25,7 @@ fn turned<B: Book + Drop>(rt: &impl Abort, heap: Global, below: B) -> Result<(),
 
 // Point 2 passes only 5, so that 7 is the most; the pinch is reaches 3 and the gate of point 2.
 fn junction<B: Book + Drop>(rt: &impl Abort, heap: Global, below: B) -> Result<(), Fail> {
-    let mut book = Junction::new(below, &[9, 9, 5, 9]);
+    let mut book = Junction::new(below, &GATE_LIMITS);
     let mut desk = make_desk(heap, Scan::new(), 9)?;
     open(&mut book)?;
     let told = desk.settle(&mut book)?;
@@ -35,7 +35,7 @@ fn junction<B: Book + Drop>(rt: &impl Abort, heap: Global, below: B) -> Result<(
 
 // Both, one over the other, and turned again.
 fn pile<B: Book + Drop>(rt: &impl Abort, heap: Global, below: B) -> Result<(), Fail> {
-    let mut book = Turned::new(Junction::new(Turned::new(below), &[9, 9, 5, 9]));
+    let mut book = Turned::new(Junction::new(Turned::new(below), &GATE_LIMITS));
     let mut desk = make_desk(heap, Scan::new(), 9)?;
     open(&mut book)?;
     let told = desk.settle(&mut book)?;

@@ -17,6 +17,9 @@ pub type Dry = (u16, u16, u32);
 // Four points, inlet 0, outlet 3.
 pub const EXAMPLE: [Dry; 5] = [(0, 1, 5), (0, 2, 4), (1, 2, 3), (1, 3, 2), (2, 3, 6)];
 
+// The most that may pass each of its points, for a junction over it.
+pub const GATE_LIMITS: [u32; 4] = [9, 9, 5, 9];
+
 // The same as a scheme file, a line each for the header and the body of the head, for the header of the rows, and
 // for each row.
 pub const EXAMPLE_FILE: &[u8; 78] = b"\
