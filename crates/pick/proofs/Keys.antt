@@ -1,6 +1,6 @@
 -- The key of each point, at once and after a call.
 use Rattle.std.proofs.Common.{◌≡◌, ℕ, suc, ◌+◌, ◌-◌, ◌<◌, ◌≤◌, cond, ltb, [], ◌∷◌, ◌++◌, set, replicate, Some, None, Option, sym, ap, ◌∙◌, append_assoc, arith}
-use Rattle.std.proofs.lemmas.List.{get_or_past, get_or-replicate, get_or_append_left, get_or-append_right, length-replicate, set_at, replicate_more}
+use Rattle.std.proofs.lemmas.List.{get_or_past, get_or-replicate, get_or_append_left, get_or-append_right, length-append, length-replicate, set_at, replicate_more}
 use Rattle.std.proofs.lemmas.Bool.{lt-ltb, le-ltb}
 use Rattle.pick.specs.Keys.{Keys, size, key_of, Outside}
 use Rattle.pick.specs.Calls.{fresh, started}
@@ -14,6 +14,9 @@ outside_below ks v k out = grind (arith, inside_past)
 -- no point of a fresh pick is outside
 pub key_of_fresh : (points v : ℕ) → key_of (fresh points) v ≡ None
 key_of_fresh points v = grind (arith, get_or-replicate, inside_past, length-replicate)
+
+pub size_started : (points n : ℕ) → n ≤ points → size (started points n) ≡ points
+size_started points n le = simp (length-append, length-replicate) (omega arith)
 
 fill_next : (n : ℕ) (x y : Option ℕ) (rest : Keys) → set (replicate n x ++ y ∷ rest) n x ≡ replicate (n + 1) x ++ rest
 fill_next n x y rest =

@@ -1,7 +1,7 @@
 // A pick that looks through all its keys.
-ghost use Rattle.std.specs.Prelude.{◌≡◌, length};
+ghost use Rattle.std.specs.Prelude.{◌≡◌, ◌≤◌, length};
 ghost use Rattle.scheme.specs.Bounds.{most_points};
-ghost use Rattle.pick.specs.Calls.{fresh};
+ghost use Rattle.pick.specs.Calls.{fresh, started};
 ghost use Rattle.pick.specs.Keys.{key_of};
 ghost use Rattle.pick.specs.Scans.{Best};
 
@@ -37,9 +37,26 @@ impl Scan {
             .keys
             .iter()
             .enumerate()
-            .min_by_key(|(_, key)| Reverse(**key))?;
+            .min_by_key(|(_, key)| rank(**key))?;
         Some((point, (*key)?))
     }
+}
+
+// The better a key, the less its rank: the greatest key comes first, and that of a point inside last.
+fn rank(key: Option<u64>) -> Reverse<Option<u64>>
+    ensures { result.0 ≡ key }
+{
+    Reverse(key)
+}
+
+// Puts exactly the first `points` outside, with key 0. (In place: a fresh table in its stead would be copied whole.)
+fn restart(keys: &mut [Option<u64>], points: usize)
+    requires { points ≤ length keys.old }
+    ensures { keys.new ≡ started (length keys.old) points }
+{
+    let (outside, inside) = keys.split_at_mut(points);
+    outside.fill(Some(0));
+    inside.fill(None);
 }
 
 impl Pick for Scan {
@@ -47,9 +64,7 @@ impl Pick for Scan {
 
     fn start(&mut self, points: u16) -> Result<(), PickFault> {
         let points = fitting(points)?;
-        let mut keys = [None; SIZE];
-        keys[..points].fill(Some(0));
-        self.keys = keys;
+        restart(&mut self.keys, points);
         Ok(())
     }
 

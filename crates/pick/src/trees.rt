@@ -72,7 +72,8 @@ impl Tree {
         ensures ordered { InOrder self.new }
         ensures held { held_in self.new ≡ started most_points points }
     {
-        *self = Tree::new();
+        self.entries.clear();
+        self.places = [None; SIZE];
         // entry and place together, so that each finds the other after every turn
         for point in 0..points {
             self.entries.push(Entry { point, key: 0 });

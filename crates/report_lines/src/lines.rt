@@ -11,8 +11,10 @@ use itoa::{Buffer, Integer};
 // The bytes of a caller's table: room for the longest line, a side of all points at six bytes each.
 pub const LINE_BYTES: usize = 4_096;
 
-// A line.
-pub(crate) type Line = ArrayString<LINE_BYTES>;
+// A line of at most two numbers, and the side. Room is cleared before it is used, so only the side has room for all points.
+pub(crate) type Line = ArrayString<96>;
+
+pub(crate) type SideLine = ArrayString<LINE_BYTES>;
 
 // A word with its space, a number and a newline.
 pub(crate) fn number_text<I: Integer>(word: &str, number: I) -> Line
@@ -39,27 +41,27 @@ pub(crate) fn flow_text(reach: usize, flow: u32) -> Line
     line
 }
 
-// A marked point after a space, in at most five digits; nothing for a point that is not marked.
-fn point_text(point: u16, mark: u8) -> ArrayString<6>
-    ensures { result.bytes ≡ side_point point mark }
+// A point after a space, in at most five digits.
+fn point_text(point: u16) -> ArrayString<6>
+    ensures { result.bytes ≡ side_point point 1 }
 {
     let mut text = ArrayString::new();
-    if mark == 1 {
-        text.push_str(" ");
-        text.push_str(Buffer::new().format(point));
-    }
+    text.push_str(" ");
+    text.push_str(Buffer::new().format(point));
     text
 }
 
 // The marked points in number order.
-pub(crate) fn side_text(marks: &[u8]) -> Line
+pub(crate) fn side_text(marks: &[u8]) -> SideLine
     requires { length marks.now ≤ most_points }
     ensures { result.bytes ≡ side_line marks.now }
 {
-    let mut line = Line::new();
+    let mut line = SideLine::new();
     line.push_str("side");
     for (point, mark) in marks.iter().enumerate() {
-        line.push_str(point_text(point as u16, *mark).as_str());
+        if *mark == 1 {
+            line.push_str(point_text(point as u16).as_str());
+        }
     }
     line.push_str("\n");
     line

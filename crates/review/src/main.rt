@@ -19,12 +19,13 @@ fn main(rt: HostRuntime) -> anyhow::Result<ExitCode> {
     let mut bytes = Vec::new(heap);
     rt.stdin().take(ENOUGH_BYTES).read_to_end(&mut bytes)?;
     match review(heap, bytes.as_mut_slice(), side.as_slice()) {
+        // as texts, of which every byte is proved: what `Display` writes before it fails is not
         Ok(claim) => {
-            rt.println(claim)?;
+            rt.println(claim.lines(heap)?)?;
             Ok(ExitCode::SUCCESS)
         }
         Err(Stop::Refused(fault)) => {
-            rt.println(Refusal::from(fault))?;
+            rt.println(Refusal::from(fault).line(heap)?)?;
             Ok(ExitCode::FAILURE)
         }
         Err(Stop::Memory) => Err(anyhow!("no memory")),

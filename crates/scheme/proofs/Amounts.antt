@@ -126,3 +126,7 @@ short_read v x r g l is_gain is_leaving small_g small_l =
       omega (arith, ints, plain, is_gain, is_leaving, sub_is out into, sub_is limit 0, sub_is out (into + limit)),
       record { above = omega (arith, ints, plain); below = omega (arith, ints, plain) },
     )
+
+-- a difference of two numbers that fit
+pub difference_read : (a b : ℕ) → a < 2 ^ 62 → b < 2 ^ 62 → to_z w64 (of_z w64 (to_z w64 a -ℤ to_z w64 b)) ≡ sub_ℕ a b
+difference_read a b small_a small_b = grind (arith, ints)

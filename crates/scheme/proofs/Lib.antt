@@ -1,3 +1,4 @@
+pub mod Finds
 pub mod Searches
 pub mod Writes
 pub mod Amounts

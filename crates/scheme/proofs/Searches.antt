@@ -57,6 +57,9 @@ module _ (p : ℕ → Bool) (n v : ℕ) where
   pub point_later : v < n → p v ≡ true → first_point p (v + 1) (n - (v + 1)) ≡ first_point p v (n - v)
   point_later within passes = sym (one_more within ∙ cond-true (p v) _ _ passes)
 
+  pub point_nowhere : n ≤ v → first_point p v (n - v) ≡ None
+  point_nowhere past = let e : n - v ≡ 0 = omega arith in ap (first_point p v) e
+
 -- nothing fails exactly if all pass
 pub all_pass : {X : Type 0} (p : X → Bool) (k : ℕ) (xs : List X) → first_fail p k xs ≡ None → AllByRecursion (λ x. p x ≡ true) xs
 all_pass p k [] e = tt

@@ -189,6 +189,11 @@ module _ (bs : List ℕ) (c : Contents) (file : FileOf bs c) where
       omega (arith, ap length (laid_block ∙ sym (append_assoc (front_bytes c) (block_bytes c) a))) in
       walking_all bs _ _ w4 file.short all
 
+  pub laid_size : length_at bs (length (front_bytes c)) ≡ 12 * length c.reaches
+  laid_size =
+      length_here bs (front_bytes c) (notes_bytes c.after) (rows c.reaches) laid_block file.short
+      ∙ length_rows_bytes c.reaches
+
   pub laid_count : length_at bs (length (front_bytes c)) / 12 ≡ length c.reaches
   laid_count =
       let size = length_here bs (front_bytes c) (notes_bytes c.after) (rows c.reaches) laid_block file.short in

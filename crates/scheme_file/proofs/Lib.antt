@@ -1,8 +1,10 @@
+pub mod Behind
 pub mod Walks
 pub mod Steps
 pub mod RowLists
 pub mod Patches
 pub mod RowWrites
+pub mod Stays
 pub mod FileWrites
 pub mod Laid
 pub mod Cut

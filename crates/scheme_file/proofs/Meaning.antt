@@ -9,7 +9,7 @@ use Rattle.scheme_file.specs.Layout.{Contents, FileOf, Means, NoFile, contents_s
 use Rattle.scheme_file.specs.Reading.{Bytes}
 use Rattle.scheme_file.specs.Rows.{scheme_at}
 use Rattle.scheme_file.proofs.Cut.{contents}
-use Rattle.scheme_file.proofs.Laid.{laid_count, laid_found, laid_lies, laid_scheme}
+use Rattle.scheme_file.proofs.Laid.{laid_count, laid_found, laid_lies, laid_scheme, laid_size}
 
 held_all :
     (bs : List ℕ) (found : Found) → 12 ≤ found.rows → found.rows + 12 * found.count ≤ length bs
@@ -83,6 +83,29 @@ walk_found bs found block bytes walked begin count =
       count = count ∙ ap (λ p. length_at bs p / 12) front ∙ laid_count bs made.0 made.1;
       bytes = bytes;
     }
+
+-- the records answer every question with yes, and the rows are all of the block that they have
+pub record Walked (bs : List ℕ) (rows : Found) : Type 0 where
+  pub block : ℕ
+  pub found : block_of_rows bs ≡ Ok block
+  pub begin : rows.rows ≡ block + 6
+  pub whole : 12 * rows.count ≡ length_at bs block
+  pub bytes : Bytes bs
+
+-- Rows are where they are said to have been found exactly if a walk over the records finds them so.
+module _ (bs : List ℕ) (rows : Found) where
+  pub found_walked : FoundIn bs rows → Walked bs rows
+  found_walked ok =
+      record {
+        block = length (front_bytes ok.contents);
+        found = laid_found bs ok.contents ok.file;
+        begin = ok.begin;
+        whole = ap (λ n. 12 * n) ok.count ∙ sym (laid_size bs ok.contents ok.file);
+        bytes = ok.bytes;
+      }
+
+  pub walked_found : Walked bs rows → FoundIn bs rows
+  walked_found ok = walk_found bs rows ok.block ok.bytes ok.found ok.begin (omega (arith, ok.whole))
 
 pub refused_no_file : (bs : List ℕ) (refusal : Refusal) → block_of_rows bs ≡ Err refusal → NoFile bs
 refused_no_file bs refusal refused c file =

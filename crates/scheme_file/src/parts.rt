@@ -1,8 +1,8 @@
 // The records of a file, as parts that borrow it.
-ghost use Rattle.std.specs.Prelude.{◌≡◌, ◌+◌, ◌<◌, ◌≤◌, length, option_map, IfOk, if◌then◌else◌, None, MatchOption, nat_lt, true, false};
+ghost use Rattle.std.specs.Prelude.{◌≡◌, ◌+◌, ◌<◌, ◌≤◌, drop, length, option_map, IfOk, if◌then◌else◌, None, MatchOption, nat_lt, true, false};
 ghost use Rattle.scheme.specs.Refusals.{file_refusal, refusal_of};
 ghost use Rattle.std.specs.List.{between};
-ghost use Rattle.scheme_file.specs.Asked.{ask_record, end_at, inside, length_at};
+ghost use Rattle.scheme_file.specs.Asked.{ask_record, end_at, inside, kind_at, length_at};
 ghost use Rattle.scheme_file.specs.Kinds.{kind_number};
 ghost use Rattle.scheme_file.specs.Numbers.{two_at};
 ghost use Rattle.scheme_file.specs.Parts.{PartAt, end_of_part, head_body, part_kind, part_place, part_size};
@@ -115,6 +115,31 @@ impl Part<'_> {
     }
 }
 
+// The length and the kind that the record at a place tells. They are read from fixed places behind its first byte: where it is
+// known that the header is inside, no byte of it is asked for.
+fn size_at(bytes: &[u8], at: usize) -> usize
+    requires { at < length bytes.now }
+    ensures { result ≡ length_at bytes.now at }
+{
+    get_u32(&bytes[at..], 0) as usize
+}
+
+fn kind_number_at(bytes: &[u8], at: usize) -> u16
+    requires { at < length bytes.now }
+    ensures { result ≡ kind_at bytes.now at }
+{
+    get_u16(&bytes[at..], KIND)
+}
+
+// What lies behind the header of the record at a place, if the header lies inside the file.
+fn behind_header(bytes: &[u8], at: usize) -> Option<&[u8]>
+    requires { at < length bytes.now }
+    ensures { MatchOption result (length bytes.now < at + 6)
+        (λ rest. (at + 6 ≤ length bytes.now) × (rest.now ≡ drop (at + 6) bytes.now)) }
+{
+    bytes[at..].get(HEADER..)
+}
+
 // The body of the record at a place, if the record lies wholly inside the file.
 fn body_at(bytes: &[u8], at: usize) -> Option<&[u8]>
     requires { at < length bytes.now }
@@ -122,8 +147,7 @@ fn body_at(bytes: &[u8], at: usize) -> Option<&[u8]>
         (λ body. (inside bytes.now at ≡ true) × (length body.now ≡ length_at bytes.now at)
         × (body.now ≡ between (at + 6) (end_at bytes.now at) bytes.now)) }
 {
-    let size = get_u32(bytes, at) as usize;
-    bytes.get(at + HEADER..)?.get(..size)
+    behind_header(bytes, at)?.get(..size_at(bytes, at))
 }
 
 // The record at a place, or nothing at the file's end. `rows_seen` tells whether a row block came before: a record is asked
@@ -141,7 +165,7 @@ pub fn part_at(bytes: &[u8], at: usize, rows_seen: bool) -> Result<Option<Part<'
     let Some(body) = body_at(bytes, at) else {
         return Err(FileFault::CutShort(at));
     };
-    let Ok(kind) = Kind::try_from(get_u16(bytes, at + KIND)) else {
+    let Ok(kind) = Kind::try_from(kind_number_at(bytes, at)) else {
         return Err(FileFault::UnknownKind(at));
     };
     match kind {

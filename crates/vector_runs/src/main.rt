@@ -4,7 +4,7 @@
 
 use anyhow::anyhow;
 use claims::side_text;
-use pick::{Pick, Scan};
+use pick::Scan;
 use scheme::questions::MOST_POINTS;
 use scheme::{Book, CallFault};
 use scheme_file::{SchemeFile, read};
@@ -19,28 +19,28 @@ const MOST: usize = MOST_POINTS as usize;
 
 fn main(rt: HostRuntime) -> anyhow::Result<()> {
     for name in env::args(&rt)?.skip(1) {
-        run_file(&rt, name.as_str(), Scan::new())?;
+        run_file(&rt, name.as_str())?;
     }
     Ok(())
 }
 
-fn run_file<P: Pick + Drop>(rt: &HostRuntime, name: &str, pick: P) -> anyhow::Result<()> {
+fn run_file(rt: &HostRuntime, name: &str) -> anyhow::Result<()> {
     let mut bytes = fs::read(rt, name)?;
     let found = read(bytes.as_slice()).map_err(|_| anyhow!("no scheme file"))?;
     let mut file = SchemeFile::lend(bytes.as_mut_slice(), found);
-    let line = outcome(rt.alloc(), &mut file, pick)?;
+    let line = outcome(rt.alloc(), &mut file)?;
     println!(rt; "{name} {line}")?;
     Ok(())
 }
 
 // What came of a book: its size, the greatest value, and the least side of that capacity.
-fn outcome<B: Book, P: Pick + Drop>(heap: Global, book: &mut B, pick: P) -> anyhow::Result<String> {
+fn outcome<B: Book>(heap: Global, book: &mut B) -> anyhow::Result<String> {
     let mut desk = Desk {
         order: vec![in heap; 0u16; MOST]?,
         place: vec![in heap; 0u16; MOST]?,
         need: vec![in heap; 0u64; MOST]?,
         marks: Vec::new(heap),
-        pick,
+        pick: Scan::new(),
     };
     let Opened { points, reaches } = told(open(book))?;
     let Settled { value, .. } = told(desk.settle(book))?;

@@ -1,14 +1,25 @@
-use Rattle.std.proofs.Common.{◌≡◌, ◌<◌, length, set, Some, None, ap, ◌∙◌, arith}
+use Rattle.std.proofs.Common.{◌≡◌, ◌<◌, length, set, Some, None, refl, ap, ◌∙◌, arith}
 use Rattle.std.proofs.lemmas.List.{length-set}
 use Rattle.scheme.specs.Bounds.{most_points}
 use Rattle.pick.specs.Keys.{key_of}
 use Rattle.pick.specs.Trees.{place_in}
 use Rattle.pick.proofs.Keys.{next_inside, started_more}
-use Rattle.pick.proofs.Links.{inside_place, more_keys, one_more}
+use Rattle.pick.proofs.Links.{inside_place, more_keys, none_back, none_held, one_more}
 use Rattle.pick.proofs.trees.Tree.start.Goals as goal
 
+-- no entry is there, so none is out of place
 pub invariant_of-self : goal.invariant_of-self
 invariant_of-self c =
+    let empty = ap length c.clear.ensures in
+    record { all = refl; there = λ i used. absurd (omega arith); back = none_back c.clear.new.self.items most_points }
+
+pub loop-point-init : goal.loop-point-init
+loop-point-init c =
+    let empty = ap length c.clear.ensures in
+    (empty, none_held c.clear.new.self.items most_points, λ i below. absurd (omega arith))
+
+pub invariant_of-self-in-loop-point : goal.invariant_of-self-in-loop-point
+invariant_of-self-in-loop-point c =
     let t = c.loop-point.self in
     let v = c.loop-point.point in
     let inside : place_in t v ≡ None =
