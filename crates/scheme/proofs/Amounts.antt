@@ -1,6 +1,7 @@
 -- Signed amounts, one for each reach, as a loop adds them up.
-use Rattle.std.proofs.Common.{◌≡◌, ◌≢◌, ◌⊎◌, ◌^◌, true, false, cond, eqb, ℕ, List, length, get_or, take, sum_by, zero, suc, ◌+◌, ◌*◌, ◌<◌, ◌≤◌, Some, None, Option, unwrap_or, IfSome, pos, neg_ℤ, ℤ, ◌+ℤ◌, ◌-ℤ◌, ◌≤ℤ◌, sym, ap, subst, ◌∙◌, add-one, arith, to_z, of_z, w64, SFits}
+use Rattle.std.proofs.Common.{◌≡◌, ◌⊎◌, ◌^◌, Bool, cond, eqb, ℕ, List, length, get_or, take, sum_by, zero, suc, ◌+◌, ◌*◌, ◌<◌, ◌≤◌, Some, None, Option, unwrap_or, IfSome, pos, neg_ℤ, ℤ, ◌+ℤ◌, ◌-ℤ◌, ◌≤ℤ◌, sym, ap, subst, ◌∙◌, add-one, arith, to_z, of_z, w64, SFits}
 use lib.IntN.{sub_ℕ}
+use Rattle.std.specs.Prelude.{Decides}
 use Rattle.std.specs.List.{slice_get}
 use Rattle.std.specs.Option.{option_map}
 use Rattle.std.proofs.lemmas.Int.{ints, to_z-of_z}
@@ -70,19 +71,12 @@ module _ (P : ℕ → Option ℤ → Type 0) (out into : Reach → ℕ) (rs : Li
 pub no_difference : (a b bits : ℕ) → bits < 2 ^ 64 → to_z w64 bits ≡ sub_ℕ a b → (bits ≡ 0 → b ≡ a) × (b ≡ a → bits ≡ 0)
 no_difference a b bits small e = (λ zero. grind (arith, ints, sub_is a b), λ same. grind (arith, ints, sub_is a b))
 
-pub steady_where :
-    (s : Scheme) (v inlet outlet bits : ℕ) → inlet ≡ s.inlet → outlet ≡ s.outlet → bits < 2 ^ 64 → to_z w64 bits ≡ sub_ℕ (outflow s v) (inflow s v)
-    → (v ≡ inlet) ⊎ ((v ≡ outlet) ⊎ (bits ≡ 0)) → steady s v ≡ true
-steady_where s v inlet outlet bits at-inlet at-outlet small e h =
-    let d = no_difference (outflow s v) (inflow s v) bits small e in
-    grind (arith, nat_tests)
-
-pub unsteady_where :
-    (s : Scheme) (v inlet outlet bits : ℕ) → inlet ≡ s.inlet → outlet ≡ s.outlet → bits < 2 ^ 64 → to_z w64 bits ≡ sub_ℕ (outflow s v) (inflow s v)
-    → v ≢ inlet → v ≢ outlet → bits ≢ 0 → steady s v ≡ false
-unsteady_where s v inlet outlet bits at-inlet at-outlet small e not-inlet not-outlet unbalanced =
-    let d = no_difference (outflow s v) (inflow s v) bits small e in
-    grind (arith, nat_tests)
+-- a test of the point and of its gain tells whether the point balances
+pub steady_told :
+    (s : Scheme) (v inlet outlet : ℕ) (gain : ℤ) (told : Bool) → inlet ≡ s.inlet → outlet ≡ s.outlet → gain ≡ sub_ℕ (outflow s v) (inflow s v)
+    → Decides told ((v ≡ inlet) ⊎ ((v ≡ outlet) ⊎ (gain ≡ pos 0))) → steady s v ≡ told
+steady_told s v inlet outlet gain told at-inlet at-outlet e h =
+    grind (arith, ints, nat_tests, sub_is (outflow s v) (inflow s v))
 
 -- what the sums over a register's reaches are
 module _ (P : ℕ → Option ℤ → Type 0) (s : Scheme) (n : ℕ) (z : ℤ) (all : n ≡ length s.reaches) (adds : Adds P n z) where

@@ -1,5 +1,5 @@
 // The questions put to a register. The first answered no is the refusal.
-ghost use Rattle.std.specs.Prelude.{◌≡◌, is_ok, Decides};
+ghost use Rattle.std.specs.Prelude.{◌≡◌, ◌⊎◌, pos, is_ok, Decides};
 ghost use Rattle.std.specs.List.{slice_get};
 ghost use Rattle.std.specs.Option.{option_map};
 ghost use Rattle.scheme.specs.Flow.{Lawful};
@@ -91,6 +91,13 @@ fn reach_carries<R: Register>(register: &R, reach: usize) -> Option<bool>
     Some(register.flow(reach)? <= register.limit(reach)?)
 }
 
+// May this point stand: is it inlet or outlet, or does it balance?
+fn point_stands(point: u16, inlet: u16, outlet: u16, gain: i64) -> bool
+    ensures { Decides result ((point ≡ inlet) ⊎ ((point ≡ outlet) ⊎ (gain ≡ pos 0))) }
+{
+    point == inlet || point == outlet || gain == 0
+}
+
 // The first inner point whose inflow is not its outflow: nested loops, left by the label at that point, as docs/DECISIONS.md has
 // it.
 fn first_unbalanced<R: Register>(few: &Few<'_, R>) -> Option<u16>
@@ -109,7 +116,7 @@ fn first_unbalanced<R: Register>(few: &Few<'_, R>) -> Option<u16>
             // every reach below `count` is in the list
             gain += gain_of(register, reach, point).unwrap_or(0);
         }
-        if point != inlet && point != outlet && gain != 0 {
+        if !point_stands(point, inlet, outlet, gain) {
             found = Some(point);
             break 'points;
         }
